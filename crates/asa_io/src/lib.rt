@@ -6,9 +6,13 @@
 #![tactic(auto)]
 
 mod gates;
+mod memory;
+mod streams;
 mod traits;
 mod whole;
 
 pub use gates::{Gate, OpenGate, Place};
+pub use memory::{MemorySink, MemorySource};
+pub use streams::{StdSink, StdSource};
 pub use traits::{Failed, Sink, Source};
 pub use whole::{ReadError, WriteError, read_all, write_all};
