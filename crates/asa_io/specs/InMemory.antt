@@ -41,7 +41,7 @@ read_answer input size = fails_or (is_named input.calls) (min size (length input
 abbrev pub after_read : Input → ℕ → Input
 after_read input size = record {
   left = if is_named input.calls then input.left else drop size input.left;
-  calls = after_call (is_named input.calls) input.calls
+  calls = after_call (is_named input.calls) input.calls;
 }
 
 -- a write fails where it is to fail, and where the room is used up
@@ -55,7 +55,7 @@ write_answer output piece = fails_or (write_fails output) (min (length piece) (o
 abbrev pub after_write : Output → List ℕ → Output
 after_write output piece = record output {
   given = if write_fails output then output.given else output.given ++ take (output.room - length output.given) piece;
-  calls = after_call (write_fails output) output.calls
+  calls = after_call (write_fails output) output.calls;
 }
 
 -- the sink after a flush

@@ -8,6 +8,8 @@
 mod gates;
 mod memory;
 mod streams;
+#[cfg(test)]
+mod tests;
 mod traits;
 mod whole;
 

@@ -124,11 +124,7 @@ fn read_within<S: Source>(src: &mut S, piece: &mut [u8], spare: u64) -> Result<u
 }
 
 /// Reads a source to its end, up to a limit, in pieces of some KiB. It takes at most one byte past the limit.
-pub fn read_all<S: Source>(
-    alloc: Global,
-    src: &mut S,
-    limit: u64,
-) -> Result<Vec<u8>, ReadError>
+pub fn read_all<S: Source>(alloc: Global, src: &mut S, limit: u64) -> Result<Vec<u8>, ReadError>
     ensures within { IfOk result (λ bytes. vec_len bytes ≤ limit) }
     ensures all { IfOk result (λ bytes. TakesAll (S.left src.old) (S.left src.new) bytes.items) }
     ensures too_long { IsErrOf result ReadError.TooLong → Exceeds limit (S.left src.old) (S.left src.new) }

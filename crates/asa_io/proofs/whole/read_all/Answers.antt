@@ -9,9 +9,9 @@ use Rattle.asa_io.proofs.whole.read_all.Goals as goal
 pub returns-in_err-n-clause-too_long : goal.returns-in_err-n-clause-too_long
 returns-in_err-n-clause-too_long g c =
     λ h. exceeds_more _ _ _ c.loop-bytes.bytes.items c.args.limit c.len.result
-        (c.len.ensures ∙ c.loop-bytes.bytes.ok.0) (omega (arith, c.len.ensures))
-        c.loop-bytes.invariant.taken
-        (c.read_within.ensures.too_long (grind arith))
+    (c.len.ensures ∙ c.loop-bytes.bytes.ok.0) (omega (arith, c.len.ensures))
+    c.loop-bytes.invariant.taken
+    (c.read_within.ensures.too_long (grind arith))
 
 pub returns-in_err-append-clause-memory : goal.returns-in_err-append-clause-memory
 returns-in_err-append-clause-memory g c =
