@@ -1,5 +1,5 @@
 -- Sources and sinks in memory, which tell their bytes, and fail at the calls that they are made to fail at.
-use Rattle.std.specs.Prelude.{ℕ, Bool, ◌-◌, ◌==◌, ◌||◌, if◌then◌else◌, nat_le, min, List, ◌++◌, length, take, drop, Result, Ok, Err}
+use Rattle.std.specs.Prelude.{ℕ, Bool, true, false, ◌-◌, ◌==◌, ◌||◌, if◌then◌else◌, nat_le, min, List, ◌++◌, length, take, drop, Result, Ok, Err}
 use Rattle.std.specs.List.{list_any}
 use Rattle.asa_io.specs.Faults.{one_more}
 use Rattle.asa_io.specs.declared.traits.Failed.{Failed}
@@ -24,10 +24,11 @@ pub record Input : Type 0 where
   pub left : List ℕ
   pub calls : Calls
 
--- a sink in memory: the bytes given, how many it takes, and its writes and flushes
+-- a sink in memory: the bytes given, how many it takes, whether it was flushed since, and its writes and flushes
 pub record Output : Type 0 where
   pub given : List ℕ
   pub room : ℕ
+  pub flushed : Bool
   pub calls : Calls
 
 -- a call fails, or answers this
@@ -53,11 +54,17 @@ abbrev pub write_answer : Output → List ℕ → Result ℕ Failed
 write_answer output piece = fails_or (write_fails output) (min (length piece) (output.room - length output.given))
 
 abbrev pub after_write : Output → List ℕ → Output
-after_write output piece = record output {
-  given = if write_fails output then output.given else output.given ++ take (output.room - length output.given) piece;
-  calls = after_call (write_fails output) output.calls;
-}
+after_write output piece =
+    record output {
+      given = if write_fails output then output.given else output.given ++ take (output.room - length output.given) piece;
+      flushed = if write_fails output then output.flushed else false;
+      calls = after_call (write_fails output) output.calls;
+    }
 
 -- the sink after a flush
 abbrev pub after_flush : Output → Output
-after_flush output = record output { calls = after_call (is_named output.calls) output.calls }
+after_flush output =
+    record output {
+      flushed = if is_named output.calls then output.flushed else true;
+      calls = after_call (is_named output.calls) output.calls;
+    }

@@ -1,5 +1,5 @@
 -- What a read to the end does to the bytes that a source tells as still to come. Of a source that tells none, nothing is said.
-use Rattle.std.specs.Prelude.{◌≡◌, ℕ, ◌+◌, ◌≤◌, ◌<◌, ◌↔◌, List, [], length, drop, Option, None, Some, IfSome, ⊤}
+use Rattle.std.specs.Prelude.{◌≡◌, ℕ, ◌+◌, ◌≤◌, ◌<◌, ◌↔◌, List, [], length, drop, Option, Some, IfSome}
 use Rattle.std.specs.Io.KnownBytes.{Consumes}
 
 -- a read gives no byte exactly where none is left

@@ -1,9 +1,6 @@
 //! Sources and sinks in memory: they tell their bytes, and fail at the calls that they are made to fail at.
-ghost use Rattle.std.specs.Prelude.{◌≡◌, ◌++◌, ◌∷◌, ◌≤◌, ◌<◌, ◌+◌, [], Some, length, take, drop, IfOk, OnErr};
-ghost use Rattle.std.specs.Io.KnownBytes.{Appends, Consumes, Keeps};
-ghost use Rattle.asa_io.specs.Faults.{HasCause, one_more};
-ghost use Rattle.asa_io.specs.Told.{EndsExactly};
-ghost use Rattle.asa_io.specs.InMemory.{after_call, after_flush, after_read, after_write, fails_or, is_named, read_answer, write_answer, write_fails};
+ghost use Rattle.std.specs.Prelude.{◌≡◌, ◌++◌, ◌≤◌, ◌<◌, [], Some, IfOk, IsTrue, OnErr, drop, length, take, true};
+ghost use Rattle.asa_io.specs.InMemory.{after_call, after_flush, after_read, after_write, fails_or, is_named, read_answer, write_answer};
 
 use super::traits::{Failed, Sink, Source};
 use std::alloc::{AllocError, Global};
@@ -122,6 +119,7 @@ impl Source for MemorySource {
 pub struct MemorySink {
     given: Vec<u8>,
     room: u32,
+    flushed: bool,
     calls: Numbered,
 }
 
@@ -131,7 +129,7 @@ impl Model for MemorySink {
 
     ghost Value = { Output };
 
-    ghost view = { λ s. record { given = s.given.items; room = s.room; calls = s.calls } };
+    ghost view = { λ s. record { given = s.given.items; room = s.room; flushed = s.flushed; calls = s.calls } };
 
     ghost invariant = { λ s. (vec_len s.given ≤ s.room) × (s.room ≤ vec_capacity s.given) };
 }
@@ -140,12 +138,13 @@ impl MemorySink {
     /// Takes as many bytes as the room, which is reserved here. Writes and flushes are numbered together from 1.
     /// The calls whose numbers `fail_at` has fail, and writes where the room is used up, and no other call.
     pub fn new(alloc: Global, fail_at: Vec<u32>, room: u32) -> Result<Self, AllocError>
-        ensures { IfOk result (λ s. s ≡ record { given = []; room = room; calls = record { fail_at = fail_at.items; made = 0; failed = 0 } }) }
+        ensures { IfOk result (λ s. s ≡ record { given = []; room = room; flushed = true; calls = record { fail_at = fail_at.items; made = 0; failed = 0 } }) }
     {
         let given = Vec::with_capacity(alloc, room as usize)?;
         Ok(MemorySink {
             given,
             room,
+            flushed: true,
             calls: Numbered::new(fail_at),
         })
     }
@@ -163,6 +162,8 @@ impl Sink for MemorySink {
 
     ghost faults = { λ s. s.calls.failed };
 
+    ghost is_flushed = { λ s. IsTrue s.flushed };
+
     /// Takes the whole piece, or what fits into the room.
     fn write(&mut self, piece: &[u8]) -> Result<usize, Failed>
         requires { 0 < length piece.now }
@@ -176,6 +177,7 @@ impl Sink for MemorySink {
         if fails {
             return Err(Failed);
         }
+        self.flushed = false;
         let n = piece.len().min(spare);
         match self.given.extend_from_slice(&piece[..n]) {
             Ok(()) => Ok(n),
@@ -193,6 +195,7 @@ impl Sink for MemorySink {
         if fails {
             return Err(Failed);
         }
+        self.flushed = true;
         Ok(())
     }
 }

@@ -1,7 +1,7 @@
 //! What the engine asks of its input and of its output.
 //!
 //! Both may tell their bytes, and then a caller's contract can speak of them. Of bytes that aren't told nothing is said.
-ghost use Rattle.std.specs.Prelude.{◌≡◌, ◌+◌, ◌≤◌, ◌<◌, ℕ, List, Option, length, take, IfOk, OnErr};
+ghost use Rattle.std.specs.Prelude.{◌+◌, ◌≤◌, ◌<◌, ℕ, List, Option, length, take, IfOk, OnErr, OnOk};
 ghost use Rattle.std.specs.Io.KnownBytes.{Appends, Consumes, Keeps};
 ghost use Rattle.asa_io.specs.Faults.{HasCause};
 ghost use Rattle.asa_io.specs.Told.{EndsExactly};
@@ -53,6 +53,9 @@ pub trait Sink {
     /// How many writes and flushes failed so far. The count never falls.
     ghost faults: { Self → ℕ };
 
+    /// What was given has been passed on, where the sink knows it.
+    ghost is_flushed: { Self → Type 0 } = { λ _. Unit {0} };
+
     /// Takes one or more of the first bytes of the piece, and answers how many.
     fn write(&mut self, piece: &[u8]) -> Result<usize, Failed>
         requires { 0 < length piece.now }
@@ -65,6 +68,7 @@ pub trait Sink {
 
     /// Passes on what was taken.
     fn flush(&mut self) -> Result<(), Failed>
+        ensures flushed { OnOk result (is_flushed self.new) }
         ensures kept { Keeps (given self.old) (given self.new) }
         ensures cause { HasCause result (faults self.old) (faults self.new) }
         ensures later { faults self.old ≤ faults self.new };

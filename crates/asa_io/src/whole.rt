@@ -148,6 +148,7 @@ pub fn read_all<S: Source>(alloc: Global, src: &mut S, limit: u64) -> Result<Vec
 /// Gives a sink all the bytes, and flushes it. After a failure some of the first bytes were given, as many as the error says.
 pub fn write_all<K: Sink>(sink: &mut K, bytes: &[u8]) -> Result<(), WriteError>
     ensures all { OnOk result (Appends (K.given sink.old) (K.given sink.new) bytes.now) }
+    ensures flushed { OnOk result (K.is_flushed sink.new) }
     ensures bound { IfErr result (λ e. written_of e ≤ length bytes.now) }
     ensures front { IfErr result (λ e. Appends (K.given sink.old) (K.given sink.new) (take (written_of e) bytes.now)) }
     ensures cause { HasCause result (K.faults sink.old) (K.faults sink.new) }

@@ -1,8 +1,6 @@
 -- What the last call says of the bytes that it found is said of the bytes at the start.
-use Rattle.std.proofs.Common.{◌≡◌, ◌≤◌, ◌++◌, length, take, arith, length-append, length-take, rules, sym, ◌∙◌, ap}
-use Rattle.std.specs.Prelude.{Err}
+use Rattle.std.proofs.Common.{◌++◌, take, arith, ◌∙◌}
 use Rattle.std.proofs.lemmas.Grind.{common_steps}
-use Rattle.std.proofs.lemmas.Result.{err_from_is_err_and}
 use Rattle.asa_io.proofs.Parts.{consumes_more, exceeds_more}
 use Rattle.asa_io.proofs.whole.read_all.Goals as goal
 
