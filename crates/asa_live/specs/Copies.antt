@@ -3,6 +3,7 @@ use Rattle.std.specs.Prelude.{ℕ, ◌≡◌, List, Option, Some}
 use mathlib.Core.Option.{some}
 use mathlib.Core.List.{IsPrefix}
 use lib.ListN.{get_elem?}
+use Rattle.logbook.specs.Pages.{Book}
 use Rattle.asa_live.specs.declared.front.Front.{Front}
 use Rattle.asa_live.specs.History.{Reaches}
 
@@ -19,3 +20,7 @@ module _ {S E L : Type 0} (is_first : S → Type 0) (next : S → E → L → S)
   -- a look at the published copy: it is a state of the machine, all that was seen before begins its list, and its list is seen
   abbrev pub Enters : Option (Front E L) → S → Front E L → Option (Front E L) → Type 0
   Enters v s now w = Reaches is_first next fits now.seen.log s × ((known : Front E L) → v ≡ Some known → Behind known now) × (w ≡ Some now)
+
+-- who knows this knows a beginning of the list of this book
+abbrev pub Knows : {E L : Type 0} → Option (Front E L) → Book → Type 0
+Knows {E} {L} v book = (known : Front E L) × (v ≡ Some known) × (known.seen.book ≡ book)

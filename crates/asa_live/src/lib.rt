@@ -5,9 +5,18 @@
 #![tactic(auto)]
 
 mod deed;
+mod door;
 mod front;
 mod machine;
+mod meeting;
+mod opening;
+mod reader;
 mod rule;
+mod writer;
 
 pub use deed::Deed;
 pub use machine::Machine;
+pub use meeting::{Meeting, meet};
+pub use opening::open_live;
+pub use reader::{Away, Reader};
+pub use writer::Writer;
