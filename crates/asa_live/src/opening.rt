@@ -66,9 +66,10 @@ fn open_copies<M: Machine, R: Wait>(
         front: front.again(),
     };
     let copies: Copies<M> = Pair::new(alloc, one, other, seats)?;
-    match copies.publish_as::<Looks, R>(rt) {
-        (copies, Ok(())) => Ok(copies),
-        (copies, Err(error)) => {
+    let (copies, published) = copies.publish_as::<Looks, R>(rt);
+    match published {
+        Ok(()) => Ok(copies),
+        Err(error) => {
             let _last = copies.take(rt);
             Err(error)
         }
