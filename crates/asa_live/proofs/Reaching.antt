@@ -20,6 +20,3 @@ module _ {S E L : Type 0} (is_first : S → Type 0) (next : S → E → L → S)
     ap (λ t. next t d.entry d.load) r.2 ∙ sym (after-snoc r.0 ds d),
     each_fits_more r.0 ds d r.3 (subst (λ t. fits t d.entry d.load) r.2 fit),
   )
-
-  pub reaches_none : (s : S) → is_first s → Reaches is_first next fits [] s
-  reaches_none s first = (s, first, refl, tt)

@@ -54,9 +54,9 @@ module _ {S E L T : Type 0} (is_first : S → Type 0) (next : S → E → L → 
   forks seat v x views h at = (
     h.0,
     (λ j known e.
-      let here : v ≡ Some known → Behind known (fr x) = λ (same : v ≡ Some known). h.1 seat known (subst (λ (o : Option (Front E L)). get_elem? views seat ≡ some o) same at) in
-      ⊎_elim (λ (old : get_elem? (set views seat v) j ≡ some (Some known)).
-          ⊎_elim (λ (t : (j ≡ seat) × (v ≡ Some known)). here t.1) (λ (t : (j ≢ seat) × (get_elem? views j ≡ some (Some known))). h.1 j known t.1) (at_set views seat j v (Some known) old))
+        let here : v ≡ Some known → Behind known (fr x) = λ (same : v ≡ Some known). h.1 seat known (subst (λ (o : Option (Front E L)). get_elem? views seat ≡ some o) same at) in
+        ⊎_elim (λ (old : get_elem? (set views seat v) j ≡ some (Some known)).
+        ⊎_elim (λ (t : (j ≡ seat) × (v ≡ Some known)). here t.1) (λ (t : (j ≢ seat) × (get_elem? views j ≡ some (Some known))). h.1 j known t.1) (at_set views seat j v (Some known) old))
         here
         (at_snoc (set views seat v) v (Some known) j e)),
   )
@@ -65,19 +65,13 @@ module _ {S E L T : Type 0} (is_first : S → Type 0) (next : S → E → L → 
   merges seat v other w x views h at apart there = (
     h.0,
     (λ j known e.
-      let told : w ≡ Some known → Behind known (fr x) = λ (same : w ≡ Some known).
-          ⊎_elim (λ (t : (other ≡ seat) × (w ≡ w)). absurd (apart t.0)) (λ (t : (other ≢ seat) × (get_elem? views other ≡ some w)). h.1 other known (subst (λ (o : Option (Front E L)). get_elem? views other ≡ some o) same t.1)) (at_set views seat other w w there) in
-      ⊎_elim (λ (t : (j ≡ other) × (None ≡ Some known)). absurd (cc (t.1)))
+        let told : w ≡ Some known → Behind known (fr x) = λ (same : w ≡ Some known).
+        ⊎_elim (λ (t : (other ≡ seat) × (w ≡ w)). absurd (apart t.0)) (λ (t : (other ≢ seat) × (get_elem? views other ≡ some w)). h.1 other known (subst (λ (o : Option (Front E L)). get_elem? views other ≡ some o) same t.1)) (at_set views seat other w w there) in
+        ⊎_elim (λ (t : (j ≡ other) × (None ≡ Some known)). absurd (cc (t.1)))
         (λ (t : (j ≢ other) × (get_elem? (set views seat w) j ≡ some (Some known))).
-          ⊎_elim (λ (u : (j ≡ seat) × (w ≡ Some known)). told u.1) (λ (u : (j ≢ seat) × (get_elem? views j ≡ some (Some known))). h.1 j known u.1) (at_set views seat j w (Some known) t.1))
+        ⊎_elim (λ (u : (j ≡ seat) × (w ≡ Some known)). told u.1) (λ (u : (j ≢ seat) × (get_elem? views j ≡ some (Some known))). h.1 j known u.1) (at_set views seat j w (Some known) t.1))
         (at_set (set views seat w) other j None (Some known) e)),
   )
-
-  -- the first view, of copies that stand for no entry
-  pub starts : (x : T) → Reaches is_first next fits (fr x).seen.log (st x) → Holds x (None ∷ [])
-  starts x reach = (reach, nobody) where
-    nobody : (seat : ℕ) (known : Front E L) → get_elem? (None ∷ []) seat ≡ some (Some known) → Behind known (fr x)
-    nobody seat known at = ⊎_elim (λ (e : get_elem? [] seat ≡ some (Some known)). absurd (cc e)) (λ (e : None ≡ Some known). absurd (cc e)) (at_snoc [] None (Some known) seat at)
 
   -- a publication without changes is a look
   pub republishes : (seat : ℕ) (v : Option (Front E L)) (x y : T) → y ≡ x → TurnsAt Holds seat v x y Look

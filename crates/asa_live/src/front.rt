@@ -106,11 +106,19 @@ impl<E, L> Front<E, L> {
             return None;
         }
         let mut seen = self.seen.again();
-        let mut offer: Offer<Deed<E, L>, u64, Law, Nothing> = seen
-            .plain::<Nothing, Deed<E, L>, Add>(deed);
+        let mut offer: Offer<Deed<E, L>, u64, Law, Nothing> = seen.plain::<
+            Nothing,
+            Deed<E, L>,
+            Add,
+        >(deed);
         let mut pen = seen.no_pen();
-        let found = head
-            .compare_exchange::<Add, Nothing>(old, old + 1, &mut seen, &mut offer, &mut pen);
+        let found = head.compare_exchange::<Add, Nothing>(
+            old,
+            old + 1,
+            &mut seen,
+            &mut offer,
+            &mut pen,
+        );
         if found != old {
             return None;
         }

@@ -30,12 +30,7 @@ where
     Half<M>: Absorb<Change<M::Entry, M::Load>, State = Half<M>>,
 {
     copies: ManuallyDrop<
-        Pair<
-            Half<M>,
-            Change<M::Entry, M::Load>,
-            Option<Front<M::Entry, M::Load>>,
-            OneList,
-        >,
+        Pair<Half<M>, Change<M::Entry, M::Load>, Option<Front<M::Entry, M::Load>>, OneList>,
     >,
     head: Head<M::Entry, M::Load>,
     front: Front<M::Entry, M::Load>,

@@ -9,4 +9,5 @@ invariant-loop g l = record {
   shown : l.copies.desk.shown ≡ l.fn.copies.desk.shown;
   none : drop l.copies.behind l.copies.log.items ≡ drop l.fn.copies.behind l.fn.copies.log.items;
   count : length l.readers.items ≡ l.counter;
-  new : All (λ r. IfSome r (IsNew l.front.seen.book)) l.readers.items }
+  new : All (λ r. IfSome r (IsNew l.front.seen.book)) l.readers.items;
+}
