@@ -20,3 +20,8 @@ pub use meeting::{Meeting, meet};
 pub use opening::open_live;
 pub use reader::{Away, Reader};
 pub use writer::Writer;
+
+#[cfg(test)]
+mod tests;
+#[cfg(test)]
+mod toys;

@@ -158,3 +158,6 @@ impl<M: Machine> Writer<M> {
         let _last = ManuallyDrop::into_inner(copies).take(rt);
     }
 }
+
+#[cfg(test)]
+mod tests;
