@@ -44,9 +44,6 @@ impl<M: Machine> Absorb<Change<M::Entry, M::Load>> for Half<M> {
     }
 }
 
-/// What somebody who looks at the copies knows of the list, if anything.
-pub type Known<M> = Option<Front<<M as Machine>::Entry, <M as Machine>::Load>>;
-
 /// The rule of the copies.
 pub struct OneList;
 

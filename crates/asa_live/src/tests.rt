@@ -1,4 +1,4 @@
-ghost use Rattle.std.specs.Prelude.{◌≡◌, All, IfSome, None, vec_len};
+ghost use Rattle.std.specs.Prelude.{◌≡◌, All, IfSome, None};
 
 use crate::toys::{Adder, Board, HEAVY, Posting, Sheet};
 use crate::{Meeting, Reader, Writer, meet, open_live};
@@ -6,7 +6,7 @@ use std::alloc::Global;
 use std::process::Abort;
 use std::sync::{Mutex, Wait};
 use std::test::*;
-use std::thread::join;
+use std::thread::{Threads, join};
 
 const ENTRIES: u64 = 60;
 
@@ -44,6 +44,29 @@ fn watch(rt: &impl Abort, mut reader: Reader<Adder>) -> Reader<Adder>
     reader
 }
 
+/// The last of the further readers.
+fn last_of(rt: &impl Abort, mut further: Vec<Option<Reader<Adder>>>) -> Reader<Adder>
+    requires { All (λ place. IfSome place (λ reader. reader.opened ≡ None)) further.items }
+    ensures { result.opened ≡ None }
+{
+    let Some(Some(reader)) = further.pop() else {
+        panic!(rt; "a further reader is missing");
+    };
+    reader
+}
+
+fn watch_both<R: Threads + Abort + Sync>(
+    rt: &R,
+    first: Reader<Adder>,
+    second: Reader<Adder>,
+) -> (Reader<Adder>, Reader<Adder>)
+    requires one { first.opened ≡ None }
+    requires other { second.opened ≡ None }
+    ensures { (result.0.opened ≡ None) × (result.1.opened ≡ None) }
+{
+    join(rt, || watch(rt, first), || watch(rt, second))
+}
+
 /// Whether each entry got its number.
 fn fill<R: Wait>(rt: &R, writer: &mut Writer<Adder>) -> bool {
     let mut all = true;
@@ -55,13 +78,11 @@ fn fill<R: Wait>(rt: &R, writer: &mut Writer<Adder>) -> bool {
 
 #[test]
 fn readers_beside_a_writer_see_the_sum_of_a_beginning(rt: HostRuntime) -> Result<(), Fail> {
-    let (mut writer, first, mut further) = open_live::<Adder, _>(&rt, rt.alloc(), 0, 0, 1)?;
-    let Some(Some(second)) = further.pop() else {
-        panic!(&rt; "a further reader is missing");
-    };
+    let (mut writer, first, further) = open_live::<Adder, _>(&rt, rt.alloc(), 0, 0, 1)?;
+    let second = last_of(&rt, further);
     let ((mut first, mut second), all) = join(
         &rt,
-        || join(&rt, || watch(&rt, first), || watch(&rt, second)),
+        || watch_both(&rt, first, second),
         || fill(&rt, &mut writer),
     );
     assert!(&rt; all);
