@@ -1,9 +1,8 @@
 -- Publishing one more entry that fits keeps the rule of the copies.
-use Rattle.std.proofs.Common.{◌≡◌, ℕ, List, [], ◌∷◌, ◌++◌, Option, sym}
+use Rattle.std.proofs.Common.{◌≡◌, ℕ, [], ◌∷◌, ◌++◌, Option, sym}
 use Rattle.left_right.specs.Register.{TurnsAt}
 use Rattle.asa_live.specs.declared.deed.Deed.{Deed}
 use Rattle.asa_live.specs.declared.front.Front.{Front}
-use Rattle.asa_live.specs.History.{Reaches}
 use Rattle.asa_live.proofs.Reaching.{reaches_more}
 use Rattle.asa_live.proofs.Steps.{Holds, Look, goes}
 

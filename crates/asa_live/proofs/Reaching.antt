@@ -1,5 +1,5 @@
 -- One more entry that fits.
-use Rattle.std.proofs.Common.{◌≡◌, List, [], ◌∷◌, ◌++◌, refl, ap, sym, subst, ◌∙◌}
+use Rattle.std.proofs.Common.{◌≡◌, List, [], ◌∷◌, ◌++◌, ap, sym, subst, ◌∙◌}
 use Rattle.std.proofs.lemmas.List.Sums.{fold-append}
 use Rattle.asa_live.specs.declared.deed.Deed.{Deed}
 use Rattle.asa_live.specs.History.{after, EachFits, Reaches}

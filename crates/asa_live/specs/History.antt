@@ -1,5 +1,5 @@
 -- Histories of a machine: what they make of a first state, and when each entry may come.
-use Rattle.std.specs.Prelude.{ℕ, ◌≡◌, List, [], ◌∷◌, fold}
+use Rattle.std.specs.Prelude.{◌≡◌, List, [], ◌∷◌, fold}
 use Rattle.asa_live.specs.declared.deed.Deed.{Deed}
 
 module _ {S E L : Type 0} where
