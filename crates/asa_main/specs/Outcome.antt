@@ -45,6 +45,23 @@ report_of s = text s (serial s)
 abbrev pub IsReported : List ℕ → (List ℕ → Type 0) → Type 0
 IsReported t P = (s : Session) × (judged t ≡ Ok s) × P (report_of s)
 
+-- what a run answers to an input that was read whole, by the bytes given before and after and the faults of the output
+abbrev pub Answers : List ℕ → Option (List ℕ) → Option (List ℕ) → ℕ → ℕ → Status → Type 0
+Answers t given given' faults faults' status.Done = IsReported t (λ report. Appends given given' report)
+Answers t given given' faults faults' (status.Refused line why) = (given' ≡ given) × (judged t ≡ Err (record { line = line; reason = why }))
+Answers t given given' faults faults' status.Usage = ⊥
+Answers t given given' faults faults' status.ReadFault = ⊥
+Answers t given given' faults faults' (status.WriteFault written) =
+    Rose faults faults' × IsReported t (λ report. (written ≤ length report) × Appends given given' (take written report))
+Answers t given given' faults faults' status.Memory = given' ≡ given
+
+-- what a function that judges an input answers
+abbrev pub Judges : Result Session Status → Result Session Refusal → Type 0
+Judges (Ok s) r = r ≡ Ok s
+Judges (Err (status.Refused line why)) r = r ≡ Err (record { line = line; reason = why })
+Judges (Err status.Memory) r = Unit {0}
+Judges (Err _) r = ⊥
+
 -- the input and the output of a run: the bytes still to come and the bytes given, where they are told, and the
 -- numbers of faults
 pub record Ends : Type 0 where

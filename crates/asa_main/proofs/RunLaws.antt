@@ -1,0 +1,44 @@
+-- From what is known of the parts of a run to what is said of the whole.
+use Rattle.std.proofs.Common.{◌≡◌, ℕ, ◌<◌, List, [], length, drop, ◌+◌, Option, None, Some, Result, Ok, Err, true, refl, sym, subst, lt-ltb, nat_lt}
+use Rattle.asa_io.specs.Told.{TakesAll, Exceeds}
+use Rattle.asa_main.specs.declared.statuses.Reason.TheVariants as reason
+use Rattle.asa_main.specs.declared.statuses.Status.{Status}
+use Rattle.asa_main.specs.declared.statuses.Status.TheVariants as status
+use Rattle.asa_main.specs.Outcome.{Answers, Ends, Refusal, Says, judged, session_limit}
+
+abbrev ends_of : Option (List ℕ) → Option (List ℕ) → ℕ → ℕ → Ends
+ends_of left given reads writes = record { left = left; given = given; read_faults = reads; write_faults = writes }
+
+-- an input that was read whole, and what was answered to it
+pub whole_run : (left left' given given' : Option (List ℕ)) (reads reads' writes writes' : ℕ) (t : List ℕ) (s : Status) →
+    TakesAll left left' t → Answers t given given' writes writes' s → Says true (ends_of left given reads writes) (ends_of left' given' reads' writes') s
+whole_run None left' given given' reads reads' writes writes' t status.Done taken answered = (refl, tt)
+whole_run None left' given given' reads reads' writes writes' t (status.Refused line why) taken answered = (refl, answered.0, tt)
+whole_run None left' given given' reads reads' writes writes' t status.Usage taken answered = absurd answered
+whole_run None left' given given' reads reads' writes writes' t status.ReadFault taken answered = absurd answered
+whole_run None left' given given' reads reads' writes writes' t (status.WriteFault written) taken answered = (refl, answered.0, tt)
+whole_run None left' given given' reads reads' writes writes' t status.Memory taken answered = (refl, answered)
+whole_run (Some bytes) left' given given' reads reads' writes writes' t s taken answered =
+    told left' given given' reads reads' writes writes' bytes s taken.1
+        (subst (λ (u : List ℕ). Answers u given given' writes writes' s) taken.0 answered)
+  where
+    told : (left' given given' : Option (List ℕ)) (reads reads' writes writes' : ℕ) (bytes : List ℕ) (s : Status) →
+        left' ≡ Some [] → Answers bytes given given' writes writes' s →
+        Says true (ends_of (Some bytes) given reads writes) (ends_of left' given' reads' writes') s
+    told left' given given' reads reads' writes writes' bytes status.Done end answered = (refl, (end, answered))
+    told left' given given' reads reads' writes writes' bytes (status.Refused line why) end answered = (refl, answered.0, answered.1)
+    told left' given given' reads reads' writes writes' bytes status.Usage end answered = absurd answered
+    told left' given given' reads reads' writes writes' bytes status.ReadFault end answered = absurd answered
+    told left' given given' reads reads' writes writes' bytes (status.WriteFault written) end answered = (refl, answered.0, (end, answered.1))
+    told left' given given' reads reads' writes writes' bytes status.Memory end answered = (refl, answered)
+
+-- an input of more bytes than the limit is refused as a whole
+pub too_long_run : (left left' given given' : Option (List ℕ)) (reads reads' writes writes' : ℕ) →
+    Exceeds session_limit left left' → given' ≡ given →
+    Says true (ends_of left given reads writes) (ends_of left' given' reads' writes') (status.Refused 0 reason.TooLong)
+too_long_run None left' given given' reads reads' writes writes' exceeds same = (refl, same, tt)
+too_long_run (Some bytes) left' given given' reads reads' writes writes' exceeds same = (refl, same, refused bytes exceeds.0)
+  where
+    refused : (bytes : List ℕ) → session_limit < length bytes → judged bytes ≡ Err (record { line = 0; reason = reason.TooLong })
+    unfolding judged
+    refused bytes more = rw (lt-ltb session_limit (length bytes) more) refl
