@@ -4,7 +4,8 @@ use Rattle.asa_io.specs.Told.{TakesAll, Exceeds}
 use Rattle.asa_main.specs.declared.statuses.Reason.TheVariants as reason
 use Rattle.asa_main.specs.declared.statuses.Status.{Status}
 use Rattle.asa_main.specs.declared.statuses.Status.TheVariants as status
-use Rattle.asa_main.specs.Outcome.{Answers, Ends, Refusal, Says, judged, session_limit}
+use Rattle.asa_session.specs.declared.scripting.Session.{Session}
+use Rattle.asa_main.specs.Outcome.{Answers, Ends, Refusal, Says, Writes, judged, report_of, session_limit}
 
 abbrev ends_of : Option (List ℕ) → Option (List ℕ) → ℕ → ℕ → Ends
 ends_of left given reads writes = record { left = left; given = given; read_faults = reads; write_faults = writes }
@@ -42,3 +43,13 @@ too_long_run (Some bytes) left' given given' reads reads' writes writes' exceeds
     refused : (bytes : List ℕ) → session_limit < length bytes → judged bytes ≡ Err (record { line = 0; reason = reason.TooLong })
     unfolding judged
     refused bytes more = rw (lt-ltb session_limit (length bytes) more) refl
+
+-- an accepted input, and how the writing of its report ended
+pub written_run : (given given' : Option (List ℕ)) (writes writes' : ℕ) (t : List ℕ) (session : Session) (s : Status) →
+    judged t ≡ Ok session → Writes (report_of session) given given' writes writes' s → Answers t given given' writes writes' s
+written_run given given' writes writes' t session status.Done accepted wrote = (session, accepted, wrote)
+written_run given given' writes writes' t session (status.Refused line why) accepted wrote = absurd wrote
+written_run given given' writes writes' t session status.Usage accepted wrote = absurd wrote
+written_run given given' writes writes' t session status.ReadFault accepted wrote = absurd wrote
+written_run given given' writes writes' t session (status.WriteFault written) accepted wrote = (wrote.0, (session, accepted, (wrote.1, wrote.2)))
+written_run given given' writes writes' t session status.Memory accepted wrote = wrote

@@ -55,6 +55,14 @@ Answers t given given' faults faults' (status.WriteFault written) =
     Rose faults faults' × IsReported t (λ report. (written ≤ length report) × Appends given given' (take written report))
 Answers t given given' faults faults' status.Memory = given' ≡ given
 
+-- what the writing of a report ends with
+abbrev pub Writes : List ℕ → Option (List ℕ) → Option (List ℕ) → ℕ → ℕ → Status → Type 0
+Writes report given given' faults faults' status.Done = Appends given given' report
+Writes report given given' faults faults' (status.WriteFault written) =
+    Rose faults faults' × (written ≤ length report) × Appends given given' (take written report)
+Writes report given given' faults faults' status.Memory = given' ≡ given
+Writes report given given' faults faults' _ = ⊥
+
 -- what a function that judges an input answers
 abbrev pub Judges : Result Session Status → Result Session Refusal → Type 0
 Judges (Ok s) r = r ≡ Ok s
