@@ -1,0 +1,6 @@
+pub mod Lines
+pub mod Blocks
+pub mod Words
+pub mod Numbers
+pub mod Readers
+pub mod Printed

@@ -1,0 +1,18 @@
+//! The text of the configuration language: lines, blocks, words with their columns, numbers, addresses and masks, the
+//! readers of a line, and printing.
+#![tactic(auto)]
+
+mod grouping;
+mod lining;
+mod listing;
+mod numbering;
+mod printing;
+mod reading;
+mod wording;
+
+pub use grouping::{Block, BlockFault, BlockLines};
+pub use lining::{Line, LineView, Lines, Text};
+pub use listing::Items;
+pub use numbering::{Addr, WordFault};
+pub use reading::LineFault;
+pub use wording::{Word, Words};
