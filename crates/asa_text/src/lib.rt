@@ -8,6 +8,7 @@ mod listing;
 mod numbering;
 mod printing;
 mod reading;
+mod scanning;
 mod wording;
 
 pub use grouping::{Block, BlockFault, BlockLines};
