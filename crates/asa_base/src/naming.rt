@@ -5,7 +5,8 @@ ghost use Rattle.std.specs.Cmp.Lexicographic.{pointwise, nat_list_eq_equiv};
 ghost use Rattle.std.specs.Cmp.Rules.{hashing};
 ghost use Rattle.std.specs.Hash as fed;
 ghost use Rattle.std.proofs.Common.{rules};
-ghost use Rattle.asa_base.specs.Naming.{is_graphic, is_name};
+ghost use Rattle.std.specs.List.{list_all};
+ghost use Rattle.asa_base.specs.Naming.{has_name_length, is_graphic, is_name};
 
 use arrayvec::ArrayString;
 use std::alloc::AllocError;
@@ -34,10 +35,22 @@ fn is_graphic_byte(byte: u8) -> bool
     byte >= 33 && byte <= 126
 }
 
+fn has_name_length(bytes: &[u8]) -> bool
+    ensures { result ≡ has_name_length bytes.now }
+{
+    !bytes.is_empty() && bytes.len() <= 64
+}
+
+fn are_all_graphic(bytes: &[u8]) -> bool
+    ensures { result ≡ list_all is_graphic bytes.now }
+{
+    bytes.iter().all(|b| is_graphic_byte(*b))
+}
+
 fn is_name_text(bytes: &[u8]) -> bool
     ensures { result ≡ is_name bytes.now }
 {
-    !bytes.is_empty() && bytes.len() <= 64 && bytes.iter().all(|b| is_graphic_byte(*b))
+    has_name_length(bytes) && are_all_graphic(bytes)
 }
 
 impl Name {
