@@ -1,2 +1,3 @@
-pub mod LineLaws
 pub mod BlockLaws
+pub mod LineLaws
+pub mod WordLaws
