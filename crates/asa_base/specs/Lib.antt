@@ -1,2 +1,10 @@
+pub use Rattle.asa_text.specs.Lines
+pub use Rattle.asa_text.specs.Blocks
+pub use Rattle.asa_text.specs.Words
+pub use Rattle.asa_text.specs.Numbers
+pub use Rattle.asa_text.specs.Readers
+pub use Rattle.asa_text.specs.Printed
 pub mod Naming
 pub mod Networks
+pub mod Ranges
+pub mod Counting
