@@ -80,8 +80,8 @@ fn is_same_route(a: &RouteLine, b: &RouteLine) -> bool
     ensures { result ≡ spec.same_route a.now b.now }
 {
     a.ifc == b.ifc
-        && a.prefix.addr() == b.prefix.addr()
-        && a.prefix.len() == b.prefix.len()
+        && a.prefix.addr == b.prefix.addr
+        && a.prefix.len == b.prefix.len
         && a.gateway == b.gateway
 }
 
