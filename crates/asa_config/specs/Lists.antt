@@ -1,6 +1,7 @@
 -- Access lists, `access-list N extended permit tcp SOURCE DEST [eq P]` with SOURCE and DEST `any` or `host A`, and
 -- `access-group N in interface I`.
 use Rattle.std.specs.Prelude.{ℕ, Bool, ◌==◌, nat_lt, List, [], ◌∷◌, ◌++◌, length, codes, Option, Some, None, is_none, Result, Ok, Err, if◌then◌else◌}
+use Rattle.std.specs.Map.{set_value}
 use Rattle.std.specs.Str.{bytes_eq}
 use Rattle.asa_text.specs.declared.grouping.Block.{Block}
 use Rattle.asa_text.specs.declared.reading.LineFault.TheVariants.{Bad, Unknown}
@@ -57,20 +58,18 @@ list_line left = do
   (line, left) ← permit_line left
   Ok ((name, line), left)
 
--- a line at the end of the list that has this name, or of a new list at the end
-abbrev pub with_line : List (List ℕ × List ListLine) → List ℕ → ListLine → List (List ℕ × List ListLine)
-with_line [] name line = (name, line ∷ []) ∷ []
-with_line (entry ∷ more) name line = if bytes_eq name entry.0 then (entry.0, entry.1 ++ line ∷ []) ∷ more
-    else entry ∷ with_line more name line
+-- the lines of a list after one more; the 65,537th isn't built
+unfoldable pub lines_step : List ListLine → ListLine → Result (List ListLine) EditRefusal
+lines_step lines line = if nat_lt (length lines) 65536 then Ok (lines ++ line ∷ []) else unbuilt_at 1
 
--- a list with these lines, or a new one, has room for one more line: at most 65,536 lines in a list, at most 1,024 lists
-abbrev pub has_room : ℕ → Option (List ListLine) → Bool
-has_room lists None = nat_lt lists 1024
-has_room lists (Some lines) = nat_lt (length lines) 65536
+-- the lists after a line has gone to the end of the list with these lines, or has begun a new list; the 1,025th isn't built
+abbrev pub lists_after : List (List ℕ × List ListLine) → List ℕ → ListLine → Option (List ListLine) → Result (List (List ℕ × List ListLine)) EditRefusal
+lists_after lists name line (Some lines) = and_then (lines_step lines line) (λ more. Ok (set_value (bytes_eq name) lists more))
+lists_after lists name line None = if nat_lt (length lists) 1024 then Ok (lists ++ (name, line ∷ []) ∷ []) else unbuilt_at 1
 
--- the lists after a line has gone to the end of its list; one for which there is no room isn't built
+-- the lists after a line has gone to the list that has this name
 unfoldable pub lists_step : List (List ℕ × List ListLine) → List ℕ → ListLine → Result (List (List ℕ × List ListLine)) EditRefusal
-lists_step lists name line = if has_room (length lists) (lines_among lists name) then Ok (with_line lists name line) else unbuilt_at 1
+lists_step lists name line = lists_after lists name line (lines_among lists name)
 
 -- the configuration after a list line
 unfoldable pub line_added : Settings → List ℕ → ListLine → Result Settings EditRefusal

@@ -1,5 +1,5 @@
 //! A configuration and its readers.
-ghost use Rattle.std.specs.Prelude.{◌≡◌, ◌<◌, ◌≤◌, List, length, IsSome, IfSome, slice_get, Some, position};
+ghost use Rattle.std.specs.Prelude.{◌≡◌, ◌<◌, ◌≤◌, List, length, IsSome, IfSome, slice_get, Some, is_some, position};
 ghost use Rattle.std.specs.Option.{option_map};
 ghost use Rattle.asa_config.specs.Settings.{Settings, nothing, interface_of, lines_of, bound_to};
 ghost use Rattle.asa_config.specs.Settings as spec;
@@ -71,6 +71,13 @@ impl Config {
         ensures few { length self.now.ifaces ≤ 64 }
     {
         self.ifaces.as_slice()
+    }
+
+    /// Whether an access list has this name.
+    pub fn has_list(&self, name: &Name) -> bool
+        ensures { result ≡ is_some (lines_of self.now name.now) }
+    {
+        self.lists.contains_key(name)
     }
 
     /// The number of the interface that has this name.

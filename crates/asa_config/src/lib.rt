@@ -6,6 +6,7 @@ mod building;
 mod configuring;
 mod holding;
 mod interfacing;
+mod listing;
 mod routing;
 
 pub use configuring::{Config, InboundList};
