@@ -1,0 +1,8 @@
+//! The access policy: a configuration compiled for deciding flows, and the decision of a packet step by step.
+#![tactic(auto)]
+
+mod outcomes;
+
+pub use outcomes::{
+    AccessVerdict, Decision, Detail, DropReason, Phase, Route, SourceMap, Step, Trail,
+};
