@@ -1,8 +1,13 @@
 //! The access policy: a configuration compiled for deciding flows, and the decision of a packet step by step.
 #![tactic(auto)]
 
+mod admitting;
+mod compiling;
+mod deciding;
 mod outcomes;
+mod routing;
 
+pub use compiling::{Policy, compile};
 pub use outcomes::{
     AccessVerdict, Decision, Detail, DropReason, Phase, Route, SourceMap, Step, Trail,
 };

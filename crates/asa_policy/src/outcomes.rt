@@ -27,7 +27,10 @@ pub enum SourceMap {
         sport: u16,
     },
     /// A dynamic rule maps it; `pool` is the index, from 0, of the rule's case.
-    Dynamic { place: NatPlace, pool: u32 },
+    Dynamic {
+        place: NatPlace,
+        pool: u32,
+    },
 }
 
 /// What a flow that passes all steps is given.
@@ -57,7 +60,9 @@ pub enum DropReason {
     /// A TCP packet that can't open a connection.
     NotSyn,
     /// The destination is the own address of this interface.
-    ToTheBox { ifc: u8 },
+    ToTheBox {
+        ifc: u8,
+    },
     /// No route covers the destination.
     NoRoute,
     /// Input and egress are two interfaces of equal levels.
@@ -65,24 +70,34 @@ pub enum DropReason {
     /// Input and egress are one interface.
     IntraInterface,
     /// An inbound list denies it.
-    AclIn { by: AccessBy },
+    AclIn {
+        by: AccessBy,
+    },
     /// The input's level is lower than the egress's, and no list rules.
     Level,
     /// The dynamic rule at this place has nothing for the packet's protocol.
-    NatProto { place: NatPlace },
+    NatProto {
+        place: NatPlace,
+    },
     /// The replies would not find the way back: the destination case of the packet, and the source case of the reply.
     ReversePath {
         unnat: Option<NatPlace>,
         reply: Option<NatPlace>,
     },
     /// The outbound list denies it.
-    AclOut { by: AccessBy },
+    AclOut {
+        by: AccessBy,
+    },
     /// As many connections live as the capacity.
     ConnLimit,
     /// The pool of the rule at this place has no value left.
-    PoolExhausted { place: NatPlace },
+    PoolExhausted {
+        place: NatPlace,
+    },
     /// A key of the flow is held by this connection; none where the flow's own two keys are equal.
-    Collision { id: Option<u64> },
+    Collision {
+        id: Option<u64>,
+    },
 }
 
 /// A step of a packet's way.
@@ -113,7 +128,10 @@ pub enum Detail {
     /// The NAT rule that applies, if there is one.
     Place(Option<NatPlace>),
     /// The route, and the number of the egress interface.
-    Routed { route: Route, egress: u8 },
+    Routed {
+        route: Route,
+        egress: u8,
+    },
     /// What let the packet pass.
     By(AccessBy),
     /// The destination case of the packet and the source case of the reply.
@@ -122,9 +140,14 @@ pub enum Detail {
         reply: Option<NatPlace>,
     },
     /// A connection with this id is opened; the packet goes on with this header.
-    Opens { id: u64, out: Header },
+    Opens {
+        id: u64,
+        out: Header,
+    },
     /// The packet goes on with this header, and no connection is opened.
-    Passes { out: Header },
+    Passes {
+        out: Header,
+    },
     /// The packet is dropped here.
     Dropped(DropReason),
 }
@@ -144,6 +167,16 @@ pub type Trail = ArrayVec<Step, 11>;
 pub enum AccessVerdict {
     Permit(AccessBy),
     Deny(AccessBy),
+}
+
+/// A copy; takes no memory.
+pub(crate) fn copy_of(by: &AccessBy) -> AccessBy
+    ensures { result ≡ by.now }
+{
+    match by.clone() {
+        Ok(copy) => copy,
+        Err(_) => unreachable!(),
+    }
 }
 
 impl Decision {
