@@ -1,6 +1,9 @@
 //! The lines of a text, borrowed one by one from its bytes, and lines that stand for themselves.
-ghost use Rattle.std.specs.Prelude.{◌≡◌, ◌+◌, ◌-◌, ◌^◌, ◌<◌, length, IfOk};
+ghost use Rattle.std.specs.Prelude.{◌≡◌, ◌+◌, ◌-◌, ◌^◌, ◌<◌, ◌≤◌, ◌∷◌, [], length, IfOk, IfNone, IfSome, slice_index};
+ghost use Rattle.std.specs.Str.Lines.{lines as text_lines};
+ghost use Rattle.asa_text.specs.Lines as spec;
 
+use crate::scanning::{before_line_feed, is_blank, same_bytes, trimmed, without_return};
 use std::alloc::{AllocError, Global};
 use std::marker::Model;
 
@@ -89,4 +92,136 @@ impl<'a> Model for Lines<'a> {
     ghost view = { λ l. record { number = l.number; lines = lines_from l.number l.rest.now } };
 
     ghost invariant = { λ l. l.number + length l.rest.now < 2 ^ 32 - 1 };
+}
+
+#[tactic(auto, using(crate::proofs::LineLaws::lines_cut, crate::proofs::LineLaws::lines_all))]
+/// The first line of the bytes as it stands, without its end, and the bytes after it.
+fn cut_line(bytes: &[u8]) -> (&[u8], &[u8])
+    requires { 0 < length bytes.now }
+    ensures lines { text_lines bytes.now ≡ result.0.now ∷ text_lines result.1.now }
+    ensures within { length result.0.now ≤ length bytes.now }
+    ensures shorter { length result.1.now < length bytes.now }
+{
+    let end = before_line_feed(bytes);
+    if end < bytes.len() {
+        (
+            without_return(bytes.split_at(end).0),
+            bytes.split_at(end + 1).1,
+        )
+    } else {
+        (bytes, &[])
+    }
+}
+
+impl<'a> LineView<'a> {
+    /// Its number.
+    pub fn number(&self) -> u32
+        ensures { result ≡ self.now.number }
+    {
+        self.number
+    }
+
+    /// Its bytes, without trailing blanks.
+    pub fn text(&self) -> &'a [u8]
+        ensures value { result.now ≡ self.now.text }
+        ensures few { length result.now < 2 ^ 32 - 1 }
+    {
+        self.text
+    }
+
+    /// Whether nothing stands in the line.
+    pub fn is_empty(&self) -> bool
+        ensures { result ≡ spec.is_empty_line self.now }
+    {
+        self.text.is_empty()
+    }
+
+    /// Whether the line is a comment.
+    pub fn is_comment(&self) -> bool
+        ensures { result ≡ spec.is_comment self.now }
+    {
+        let first = first_byte(self.text);
+        first == b':' || first == b'!'
+    }
+
+    /// Whether the line says something: it is neither empty nor a comment.
+    pub fn is_kept(&self) -> bool
+        ensures { result ≡ spec.is_kept self.now }
+    {
+        !self.is_empty() && !self.is_comment()
+    }
+
+    /// Whether the line belongs to the block of the top-level line before it.
+    pub fn is_indented(&self) -> bool
+        ensures { result ≡ spec.is_indented self.now }
+    {
+        is_blank(first_byte(self.text))
+    }
+
+    /// Whether the line is the comment that ends the startup part.
+    pub fn is_end(&self) -> bool
+        ensures { result ≡ spec.is_end self.now }
+    {
+        same_bytes(self.text, b": end")
+    }
+
+    /// The line with a copy of its bytes.
+    pub fn to_line(&self, alloc: Global) -> Result<Line, AllocError>
+        ensures { IfOk result (λ l. l ≡ self.now) }
+    {
+        let text = Text::from_slice(alloc, self.text)?;
+        Ok(Line {
+            number: self.number,
+            text,
+        })
+    }
+}
+
+/// The first byte, or 0 where there is none.
+fn first_byte(bytes: &[u8]) -> u8
+    ensures { result ≡ slice_index bytes.now 0 }
+{
+    if bytes.is_empty() { 0 } else { bytes[0] }
+}
+
+impl<'a> Lines<'a> {
+    /// The lines of a text, of which the first has the number `first`.
+    pub fn new(text: &'a [u8], first: u32) -> Lines<'a>
+        requires { first + length text.now < 2 ^ 32 - 1 }
+        ensures value { result ≡ record { number = first; lines = spec.lines_from first text.now } }
+    {
+        Lines {
+            number: first,
+            rest: text,
+        }
+    }
+
+    /// The number of the next line; where no line is left, the number of lines so far and the first number together.
+    pub fn number(&self) -> u32
+        ensures value { result ≡ self.now.number }
+        ensures few { result < 2 ^ 32 - 1 }
+    {
+        self.number
+    }
+
+    /// The next line.
+    #[tactic(auto, using(crate::proofs::LineLaws::lines_next, crate::proofs::LineLaws::lines_none))]
+    pub fn next(&mut self) -> Option<LineView<'a>>
+        ensures few { self.new.number < 2 ^ 32 - 1 }
+        ensures none { IfNone result ((self.old.lines ≡ []) × (self.new ≡ self.old)) }
+        ensures first { IfSome result (λ l. self.old.lines ≡ l ∷ self.new.lines) }
+        ensures numbers { IfSome result (λ l. (l.number ≡ self.old.number) × (self.new.number ≡ self.old.number + 1)) }
+    {
+        if self.rest.is_empty() {
+            return None;
+        }
+        let number = self.number;
+        let (line, rest) = cut_line(self.rest);
+        self.number = number + 1;
+        self.rest = rest;
+        Some(LineView {
+            number,
+            text: trimmed(line),
+        })
+    }
 }
