@@ -1,7 +1,9 @@
 //! A configuration compiled for deciding flows.
 ghost use Rattle.std.specs.Prelude.{◌≡◌, IfOk};
+ghost use Rattle.asa_policy.specs.Access.{is_named};
 ghost use Rattle.asa_policy.specs.Routing.{candidates};
 
+use crate::admitting::iface_at;
 use crate::routing::{self, Candidate};
 use asa_config::Config;
 use std::alloc::{AllocError, Global};
@@ -42,6 +44,16 @@ impl Policy {
         ensures { result.now ≡ self.now }
     {
         &self.config
+    }
+
+    /// Whether there is an interface with this number, and it has a name.
+    pub fn is_named(&self, ifc: u8) -> bool
+        ensures { result ≡ is_named self.now ifc }
+    {
+        match iface_at(&self.config, ifc) {
+            Some(iface) => iface.name.is_some(),
+            None => false,
+        }
     }
 
     /// The ways to networks.

@@ -14,6 +14,15 @@ use crate::routing::{Candidate, best_to};
 use asa_base::{AccessBy, Addr, Counter, Packet};
 use asa_config::{Config, Iface};
 
+/// A trail that a decision can begin with: the step FLOW-LOOKUP, which found no connection.
+pub fn begun_trail() -> Trail
+    ensures { spec.IsBegun result.items }
+{
+    let mut trail = Trail::new();
+    note(&mut trail, Phase::FlowLookup, Detail::None);
+    trail
+}
+
 /// Whether this bit of the flags is set.
 fn has_flag(p: &Packet, bit: u8) -> bool
     requires { 0 < bit }

@@ -8,6 +8,10 @@ mod outcomes;
 mod routing;
 
 pub use compiling::{Policy, compile};
+pub use deciding::begun_trail;
 pub use outcomes::{
     AccessVerdict, Decision, Detail, DropReason, Phase, Route, SourceMap, Step, Trail,
 };
+
+#[cfg(test)]
+mod tests;

@@ -142,3 +142,34 @@ pub(crate) fn best_to(candidates: &[Candidate], address: Addr) -> Option<Candida
     }
     best
 }
+
+#[cfg(test)]
+mod tests {
+    use super::*;
+    use asa_base::Name;
+    use std::test::Fail;
+
+    #[test]
+    fn an_interface_that_is_shut_down_offers_no_way(rt: HostRuntime) -> Result<(), Fail> {
+        let hardware = Name::new(b"Ethernet0").ok_or("a name")?;
+        let name = Name::new(b"outside").ok_or("a name")?;
+        let mut iface = Iface {
+            hardware,
+            name: Some(name),
+            level: 0,
+            addr: Some((Addr(0xcb00_7102), 24)),
+            shutdown: false,
+        };
+        let open = Candidate {
+            network: Addr(0xcb00_7102),
+            len: 24,
+            distance: 0,
+            route: Route::Connected,
+            egress: 3,
+        };
+        assert_eq!(rt; connected_of(3, &iface), Some(open));
+        iface.shutdown = true;
+        assert_eq!(rt; connected_of(3, &iface), None);
+        Ok(())
+    }
+}
