@@ -1,0 +1,5 @@
+pub mod Judging
+pub mod Starting
+pub mod Scripts
+pub mod Sessions
+pub mod Readiness
