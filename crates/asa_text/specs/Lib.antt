@@ -4,3 +4,4 @@ pub mod Words
 pub mod Numbers
 pub mod Readers
 pub mod Printed
+pub mod Building

@@ -2,6 +2,7 @@
 //! readers of a line, and printing.
 #![tactic(auto)]
 
+mod building;
 mod grouping;
 mod lining;
 mod listing;
@@ -11,7 +12,7 @@ mod reading;
 mod scanning;
 mod wording;
 
-pub use grouping::{Block, BlockFault, BlockLines};
+pub use grouping::{Block, BlockFault, BlockLines, StartupText, cut_blocks, cut_startup};
 pub use lining::{Line, LineView, Lines, Text};
 pub use listing::Items;
 pub use numbering::{Addr, WordFault};

@@ -204,6 +204,7 @@ impl<'a> Lines<'a> {
     /// The next line.
     #[tactic(auto, using(crate::proofs::LineLaws::lines_next, crate::proofs::LineLaws::lines_none))]
     pub fn next(&mut self) -> Option<LineView<'a>>
+        ensures few { self.new.number < 2 ^ 32 - 1 }
         ensures none { IfNone result ((self.old.lines ≡ []) × (self.new ≡ self.old)) }
         ensures first { IfSome result (λ l. self.old.lines ≡ l ∷ self.new.lines) }
         ensures numbers { IfSome result (λ l. (l.number ≡ self.old.number) × (self.new.number ≡ self.old.number + 1)) }
