@@ -5,3 +5,4 @@ pub mod Numbers
 pub mod Readers
 pub mod Printed
 pub mod Building
+pub mod Runs

@@ -15,6 +15,7 @@ mod wording;
 pub use grouping::{Block, BlockFault, BlockLines, StartupText, cut_blocks, cut_startup};
 pub use lining::{Line, LineView, Lines, Text};
 pub use listing::Items;
-pub use numbering::{Addr, WordFault};
+pub use numbering::{Addr, WordFault, is_digit, mask_bits, parse_addr, parse_mask, parse_number};
+pub use printing::{push_address, push_address_port, push_bytes, push_number};
 pub use reading::LineFault;
 pub use wording::{Word, Words};
