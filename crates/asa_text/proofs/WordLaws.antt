@@ -49,7 +49,7 @@ word_and_blank n bs some h =
     let w : Spelled = record { column = n; word = take m bs } in
     let long = length-take-le m bs (omega arith) in
     let tail : words_at (n + m) (drop m bs) ≡ words_at (n + m + 1) (drop (m + 1) bs) =
-        ap (words_at (n + m)) (drop_more bs m 0 h) ∙ blank_first (n + m) (get_or bs m 0) (drop (m + 1) bs) (passes_at_first is_blank bs 0 h) in
+    ap (words_at (n + m)) (drop_more bs m 0 h) ∙ blank_first (n + m) (get_or bs m 0) (drop (m + 1) bs) (passes_at_first is_blank bs 0 h) in
     ap (placed n) (slice_split_first is_blank bs 0 h)
     ∙ placed_word n (take m bs) (slice_split is_blank (drop (m + 1) bs)) (omega (arith, long))
     ∙ ap (λ k. w ∷ words_at (n + k + 1) (drop (m + 1) bs)) long

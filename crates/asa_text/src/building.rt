@@ -108,7 +108,10 @@ impl Builder {
 
     /// The blocks, where no line comes any more.
     #[tactic(auto, using(crate::proofs::BlockLaws::finished_end))]
-    pub(crate) fn finish(mut self, alloc: Global) -> Result<Result<Items<Block>, BlockFault>, AllocError>
+    pub(crate) fn finish(
+        mut self,
+        alloc: Global,
+    ) -> Result<Result<Items<Block>, BlockFault>, AllocError>
         requires { length self.current < 2 ^ 32 - 1 }
         ensures { IfOk result (λ r. r ≡ finished self (grouped [])) }
     {

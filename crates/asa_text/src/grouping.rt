@@ -73,7 +73,11 @@ impl Block {
 /// The lines of a text, of which the first has the number `first_line`, cut into blocks; or the first line that is
 /// indented and has no top-level line before it.
 #[tactic(auto, unfolding(crate::specs::Blocks::grouped))]
-pub fn cut_blocks(alloc: Global, text: &[u8], first_line: u32) -> Result<Result<Items<Block>, BlockFault>, AllocError>
+pub fn cut_blocks(
+    alloc: Global,
+    text: &[u8],
+    first_line: u32,
+) -> Result<Result<Items<Block>, BlockFault>, AllocError>
     requires { first_line + length text.now < 2 ^ 32 - 1 }
     ensures { IfOk result (λ r. r ≡ blocks_of (lines_from first_line text.now)) }
 {

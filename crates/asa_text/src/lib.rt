@@ -17,5 +17,5 @@ pub use lining::{Line, LineView, Lines, Text};
 pub use listing::Items;
 pub use numbering::{Addr, WordFault, is_digit, mask_bits, parse_addr, parse_mask, parse_number};
 pub use printing::{push_address, push_address_port, push_bytes, push_number};
-pub use reading::LineFault;
+pub use reading::{LineFault, address, end_of_line, keyword, mask, number};
 pub use wording::{Word, Words};

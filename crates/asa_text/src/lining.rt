@@ -104,7 +104,10 @@ fn cut_line(bytes: &[u8]) -> (&[u8], &[u8])
 {
     let end = before_line_feed(bytes);
     if end < bytes.len() {
-        (without_return(bytes.split_at(end).0), bytes.split_at(end + 1).1)
+        (
+            without_return(bytes.split_at(end).0),
+            bytes.split_at(end + 1).1,
+        )
     } else {
         (bytes, &[])
     }

@@ -12,7 +12,7 @@ invariant-loop-line l = record {
   blocks : finished l.builder (grouped (filter is_kept (before_end l.lines.lines))) ≡ finished l.initial.builder (grouped (filter is_kept (before_end l.initial.lines.lines)));
   after : after_end l.lines.lines ≡ after_end l.initial.lines.lines;
   numbers : l.lines.number + length l.lines.lines ≡ l.initial.lines.number + length l.initial.lines.lines;
-  not_ended : l.ended ≡ false
+  not_ended : l.ended ≡ false;
 }
 
 abbrev pub decreases-loop-line : goal.decreases-loop-line
