@@ -15,15 +15,24 @@ use Rattle.asa_session.specs.Judging.{and_then, unbuilt_script}
 
 -- `packet I tcp A SPORT A DPORT S`
 unfoldable pub packet_line : Settings → Left → Read Packet
-packet_line c left = keyword_at (codes "packet") left >>= λ (_, l). interface_at c l >>= λ (ifc, l2).
-    keyword_at (codes "tcp") l2 >>= λ (_, l3). address_at l3 >>= λ (src, l4). number_at 0 65535 l4 >>= λ (sport, l5).
-    address_at l5 >>= λ (dst, l6). number_at 0 65535 l6 >>= λ (dport, l7). keyword_at (codes "S") l7 >>= λ (_, l8).
-    end_at l8 >>= λ (_, l9).
-    Ok (record { ifc = ifc; proto = 6; src = src; sport = sport; dst = dst; dport = dport; flags = 1; itype = 0; icode = 0 }, l9)
+packet_line c left = do
+  (_, left) ← keyword_at (codes "packet") left
+  (ifc, left) ← interface_at c left
+  (_, left) ← keyword_at (codes "tcp") left
+  (src, left) ← address_at left
+  (sport, left) ← number_at 0 65535 left
+  (dst, left) ← address_at left
+  (dport, left) ← number_at 0 65535 left
+  (_, left) ← keyword_at (codes "S") left
+  (_, left) ← end_at left
+  Ok (record { ifc = ifc; proto = 6; src = src; sport = sport; dst = dst; dport = dport; flags = 1; itype = 0; icode = 0 }, left)
 
 -- `lane 1`
 unfoldable pub lane_line : Left → Read (Unit {0})
-lane_line left = keyword_at (codes "lane") left >>= λ (_, l). keyword_at (codes "1") l >>= λ (_, l2). end_at l2
+lane_line left = do
+  (_, left) ← keyword_at (codes "lane") left
+  (_, left) ← keyword_at (codes "1") left
+  end_at left
 
 -- what a reader gave of the line with this number, where the line is built
 abbrev pub built_at : {X : Type 0} → ℕ → Read X → Result X SessionError
@@ -54,15 +63,15 @@ command_line c earlier n left =
     else (if next_is (codes "packet") left then and_then (built_at n (packet_line c left)) (with_packet n earlier)
     else unbuilt_script n)
 
--- the packets after a line of the script, of which n came before; the 262,145th isn't built
-unfoldable pub script_line : Settings → ℕ → List Packet → Line → Result (List Packet) SessionError
-script_line c n earlier l =
-    if n == 262144 then unbuilt_script l.number
-    else (if not (is_kept l) then Ok earlier
+-- the packets after a line of the script
+unfoldable pub script_line : Settings → List Packet → Line → Result (List Packet) SessionError
+script_line c earlier l =
+    if not (is_kept l) then Ok earlier
     else (if is_indented l then unbuilt_script l.number
-    else command_line c earlier l.number (line_left l.text)))
+    else command_line c earlier l.number (line_left l.text))
 
--- the packets after lines
+-- the packets after lines, of which n came before; the 262,145th isn't built
 abbrev pub script_packets : Settings → ℕ → List Packet → List Line → Result (List Packet) SessionError
 script_packets c n earlier [] = Ok earlier
-script_packets c n earlier (l ∷ ls) = and_then (script_line c n earlier l) (λ packets. script_packets c (n + 1) packets ls)
+script_packets c n earlier (l ∷ ls) = if n == 262144 then unbuilt_script l.number
+    else and_then (script_line c earlier l) (λ packets. script_packets c (n + 1) packets ls)

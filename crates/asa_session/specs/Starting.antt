@@ -1,5 +1,5 @@
 -- The startup part: its blocks, and the configuration that they make.
-use Rattle.std.specs.Prelude.{ℕ, ◌+◌, ◌-◌, Bool, true, ◌==◌, List, [], ◌∷◌, Option, Some, None, slice_get, Result, Ok, Err, if◌then◌else◌}
+use Rattle.std.specs.Prelude.{ℕ, ◌+◌, ◌-◌, true, ◌==◌, List, [], ◌∷◌, Option, Some, None, slice_get, Result, Ok, Err, if◌then◌else◌}
 use Rattle.asa_text.specs.declared.lining.Line.{Line}
 use Rattle.asa_text.specs.declared.grouping.Block.{Block}
 use Rattle.asa_config.specs.declared.holding.EditRefusal.{EditRefusal}

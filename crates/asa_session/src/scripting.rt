@@ -3,6 +3,7 @@ use crate::sharing::Shared;
 use asa_base::Packet;
 use asa_config::{Config, EditFault};
 use asa_text::{Block, Items};
+use std::alloc::AllocError;
 
 /// What a lane asks of the firewall.
 #[derive(Clone, Copy, Debug, PartialEq, Eq)]
@@ -69,4 +70,15 @@ pub enum SessionError {
     At { line: u32, kind: SessionKind },
     /// Memory ran out.
     NoMemory,
+}
+
+impl From<AllocError> for SessionError {
+    ghost use Rattle.std.specs.Prelude.{◌≡◌};
+    ghost use Rattle.asa_session.specs.declared.scripting.SessionError.TheVariants as error;
+
+    ghost from_gives = { λ _ e. e ≡ error.NoMemory };
+
+    fn from(_: AllocError) -> SessionError {
+        SessionError::NoMemory
+    }
 }
