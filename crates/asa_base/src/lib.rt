@@ -7,6 +7,8 @@ mod flowing;
 mod naming;
 mod networking;
 mod reading;
+#[cfg(test)]
+mod tests;
 
 pub use asa_text::{Addr, LineFault, WordFault};
 pub use counting::{Counter, Sealed};

@@ -1,10 +1,10 @@
 -- The number that digits write, one digit after another.
-use Rattle.std.proofs.Common.{◌≡◌, ◌==◌, ℕ, ◌+◌, ◌-◌, ◌*◌, Bool, zero, suc, cond, Some, ap, ◌<◌, ◌≤◌, true, false, List, [], ◌∷◌, length, take, drop, get_or, arith}
-use Rattle.std.specs.List.{slice_split, position_or_len, find, range_with_len}
+use Rattle.std.proofs.Common.{◌≡◌, ◌==◌, ℕ, ◌+◌, ◌-◌, ◌*◌, Bool, zero, suc, cond, Some, ap, ◌<◌, ◌≤◌, true, false, List, [], ◌∷◌, length, take, drop, get_or, refl, arith}
+use Rattle.std.specs.List.{slice_split, position_or_len, find, range_with_len, list_all}
 use Rattle.std.proofs.lemmas.List.Splits.{slice_split_first, slice_split_none, length-slice_split}
 use Rattle.std.proofs.lemmas.List.Sums.{fails_before_first}
 use Rattle.std.proofs.lemmas.List.Elements.{All-from_get_or}
-use Rattle.asa_text.specs.Numbers.{runs}
+use Rattle.asa_text.specs.Numbers.{is_digit, runs}
 use Rattle.std.specs.Char.{digit_value}
 use Rattle.std.specs.Str.Parse.{digits_value}
 use Rattle.std.proofs.lemmas.Int.Digits.{digits_value_more}
@@ -17,6 +17,11 @@ value_more ds i h = digits_value_more 10 ds i h
 -- the digits so far write no more than all of them
 pub value_le : (ds : List ℕ) (i : ℕ) → digits_value 10 (take i ds) ≤ digits_value 10 ds
 value_le ds i = digits_value-take-le 10 ds i (omega arith)
+
+-- a word without a byte has no byte that isn't a digit
+pub empty_digits : (word : List ℕ) → length word ≡ 0 → list_all is_digit word ≡ true
+empty_digits [] h = refl
+empty_digits (b ∷ bs) h = absurd (omega arith)
 
 -- a word with a dot: its first run, and the runs of what follows
 pub runs_first : (word : List ℕ) → position_or_len (λ b. b == 46) word < length word

@@ -10,12 +10,16 @@ use Rattle.asa_text.specs.declared.numbering.WordFault.TheVariants.{Empty, NotAN
 abbrev pub is_digit : ℕ → Bool
 is_digit b = nat_le 48 b && nat_le b 57
 
+-- between two bounds, both of which count
+abbrev pub is_within : ℕ → ℕ → ℕ → Bool
+is_within least greatest n = nat_le least n && nat_le n greatest
+
 -- the decimal number of a word, between two bounds; leading zeros are allowed
 unfoldable pub number_of : List ℕ → ℕ → ℕ → Result ℕ WordFault
 number_of word least greatest =
     if length word == 0 then Err Empty
     else (if not (list_all is_digit word) then Err NotANumber
-    else (if nat_le least (digits_value 10 word) && nat_le (digits_value 10 word) greatest then Ok (digits_value 10 word) else Err OutOfRange))
+    else (if is_within least greatest (digits_value 10 word) then Ok (digits_value 10 word) else Err OutOfRange))
 
 -- the runs of a word between its dots
 abbrev pub runs : List ℕ → List (List ℕ)
@@ -32,6 +36,10 @@ is_octet run = nat_le (length run) 3 && nat_le (digits_value 10 run) 255
 -- the number that octets stand for, the first the highest
 abbrev pub octets_value : List (List ℕ) → ℕ
 octets_value rs = fold (λ v run. v * 256 + digits_value 10 run) 0 rs
+
+-- four runs of digits joined by three dots
+abbrev pub has_address_form : List ℕ → Bool
+has_address_form word = (length (runs word) == 4) && list_all is_number (runs word)
 
 -- the address of four runs
 abbrev pub address_of_runs : List (List ℕ) → Result Addr WordFault

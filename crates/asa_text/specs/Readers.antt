@@ -48,6 +48,14 @@ after_one left = record { words = of_words left.words; end = left.end }
     of_words [] = []
     of_words (_ ∷ more) = more
 
+-- the column of the next word, or of a missing one
+abbrev pub column_at : Left → ℕ
+column_at left = of_words left.words
+  where
+    of_words : List Spelled → ℕ
+    of_words [] = left.end
+    of_words (w ∷ _) = w.column
+
 -- the next word is this one
 abbrev pub next_is : List ℕ → Left → Bool
 next_is text left = of_words left.words

@@ -1,6 +1,8 @@
 //! Blocks: each top-level line of a text with the indented lines that follow it.
-ghost use Rattle.std.specs.Prelude.{◌≡◌, ◌+◌, ◌-◌, ◌^◌, ◌<◌, ◌≤◌, ◌∷◌, [], length, IfOk, IfSome, IfNone, IsTrue, OnOk, is_some, unwrap_or, slice_get, Some};
-ghost use Rattle.asa_text.specs.Lines.{is_block, lines_from, before_end, after_end};
+ghost use Rattle.std.specs.Prelude.{◌≡◌, ◌+◌, ◌-◌, ◌^◌, ◌<◌, ◌≤◌, ◌∷◌, [], length, IfOk, IfSome, IfNone, IsTrue, OnOk, is_some, unwrap_or, slice_get, Some, nat_lt, ◌&&◌};
+ghost use Rattle.std.specs.List.{list_all};
+ghost use Rattle.std.specs.Option.{SomeIff};
+ghost use Rattle.asa_text.specs.Lines.{is_block, is_kept, is_indented, lines_from, before_end, after_end};
 ghost use Rattle.asa_text.specs.Blocks.{blocks_of};
 
 use crate::building::Builder;
@@ -61,7 +63,48 @@ impl BlockLines {
     }
 }
 
+/// Whether the line says something and is indented.
+fn is_inner(line: &Line) -> bool
+    ensures { result ≡ (is_kept line.now && is_indented line.now) }
+{
+    let line = line.view();
+    line.is_kept() && line.is_indented()
+}
+
+/// Whether each of the lines says something and is indented.
+fn are_inner(lines: &[Line]) -> bool
+    ensures { result ≡ list_all (λ l. is_kept l && is_indented l) lines.now }
+{
+    lines.iter().all(|line| is_inner(line))
+}
+
+/// Whether the lines have the form of a block.
+fn has_block_form(lines: &[Line]) -> bool
+    ensures { result ≡ is_block lines.now }
+{
+    match lines {
+        [] => false,
+        [top, inner @ ..] => {
+            let top = top.view();
+            top.is_kept() && !top.is_indented() && are_inner(inner)
+        }
+    }
+}
+
 impl Block {
+    /// The block of these lines; None where they haven't the form of a block, or are 2^32 - 1 or more.
+    pub fn new(lines: Vec<Line>) -> Option<Block>
+        ensures { SomeIff result (IsTrue (is_block lines.items && nat_lt (length lines.items) (2 ^ 32 - 1))) (record { lines = lines.items }) }
+    {
+        if has_block_form(&lines) && lines.len() < 0xffff_ffff {
+            Some(Block {
+                lines: BlockLines::over(lines),
+            })
+        } else {
+            None
+        }
+    }
+
     /// The top-level line.
     pub fn top(&self) -> &Line
         ensures { slice_get self.now.lines 0 ≡ Some result.now }

@@ -19,3 +19,6 @@ pub use numbering::{Addr, WordFault, is_digit, mask_bits, parse_addr, parse_mask
 pub use printing::{push_address, push_address_port, push_bytes, push_number};
 pub use reading::{LineFault, address, end_of_line, keyword, mask, number};
 pub use wording::{Word, Words};
+
+#[cfg(test)]
+mod tests;

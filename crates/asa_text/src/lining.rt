@@ -58,6 +58,18 @@ impl Text {
     }
 }
 
+impl Line {
+    /// The line, borrowed.
+    pub fn view(&self) -> LineView<'_>
+        ensures { result ≡ self.now }
+    {
+        LineView {
+            number: self.number,
+            text: self.text.as_bytes(),
+        }
+    }
+}
+
 /// A line that borrows its bytes from the text that it stands in.
 #[derive(Debug, Drop)]
 pub struct LineView<'a> {

@@ -79,6 +79,20 @@ impl<T> Items<T> {
     }
 }
 
+impl<T: Clone + Drop> Items<T> {
+    /// A copy, where a clone of a value is the same value.
+    pub fn copy(&self, alloc: Global) -> Result<Items<T>, AllocError>
+        requires { (a b : T) → T.is_clone a b → b ≡ a }
+        ensures { IfOk result (λ it. it ≡ self.now) }
+    {
+        let mut items = Vec::with_capacity(alloc, self.items.len())?;
+        for item in &self.items {
+            items.push(item.clone()?)?;
+        }
+        Ok(Items { items })
+    }
+}
+
 impl<T> From<Vec<T>> for Items<T> {
     ghost from_gives = { λ v it. it ≡ v.items };
 

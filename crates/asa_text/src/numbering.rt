@@ -1,5 +1,5 @@
 //! What a word means as a number, an address or a mask.
-ghost use Rattle.std.specs.Prelude.{◌≡◌, ◌+◌, ◌-◌, ◌*◌, ◌^◌, ◌<◌, ◌≤◌, ◌==◌, ◌∷◌, [], ◌↔◌, false, not, nat_lt, nat_le, length, IsTrue, IfSome, IfNone, IsErrOf, Ok};
+ghost use Rattle.std.specs.Prelude.{◌≡◌, ◌+◌, ◌-◌, ◌*◌, ◌^◌, ◌<◌, ◌≤◌, ◌==◌, ◌∷◌, [], ◌↔◌, false, not, nat_lt, nat_le, length, IsTrue, IfSome, IfNone, IfOk, IsErrOf, Ok, ◌&&◌};
 ghost use Rattle.std.specs.List.{list_all};
 ghost use Rattle.std.specs.Option.{SomeIff, MatchOption};
 ghost use Rattle.std.specs.Char.{digit_value};
@@ -64,10 +64,14 @@ fn with_digit(value: u64, digit: u8) -> Option<u64>
     value.checked_mul(10)?.checked_add(u64::from(digit - b'0'))
 }
 
-#[tactic(auto, unfolding(crate::specs::Numbers::number_of))]
+#[tactic(auto, using(crate::proofs::NumberLaws::empty_digits), unfolding(crate::specs::Numbers::number_of))]
 /// The decimal number of a word, from `least` to `greatest`. Leading zeros are allowed.
 pub fn parse_number(word: &[u8], least: u64, greatest: u64) -> Result<u64, WordFault>
-    ensures { result ≡ spec.number_of word.now least greatest }
+    ensures value { result ≡ spec.number_of word.now least greatest }
+    ensures empty { IsErrOf result WordFault.Empty ↔ (length word.now ≡ 0) }
+    ensures not_a_number { IsErrOf result WordFault.NotANumber ↔ IsTrue (not (list_all spec.is_digit word.now)) }
+    ensures out_of_range { IsErrOf result WordFault.OutOfRange
+        ↔ IsTrue (spec.is_number word.now && not (spec.is_within least greatest (digits_value 10 word.now))) }
 {
     if word.is_empty() {
         return Err(WordFault::Empty);
@@ -173,7 +177,12 @@ impl Runs<'_> {
 /// 255; leading zeros are allowed.
 #[tactic(auto, unfolding(crate::specs::Numbers::address_of))]
 pub fn parse_addr(word: &[u8]) -> Result<Addr, WordFault>
-    ensures { result ≡ spec.address_of word.now }
+    ensures value { result ≡ spec.address_of word.now }
+    ensures empty { IsErrOf result WordFault.Empty ↔ (length word.now ≡ 0) }
+    ensures not_a_number { IsErrOf result WordFault.NotANumber
+        ↔ IsTrue (not (length word.now == 0) && not (spec.has_address_form word.now)) }
+    ensures out_of_range { IsErrOf result WordFault.OutOfRange
+        ↔ IsTrue (spec.has_address_form word.now && not (list_all spec.is_octet (spec.runs word.now))) }
 {
     if word.is_empty() {
         return Err(WordFault::Empty);
@@ -209,7 +218,8 @@ pub fn mask_bits(ones: u8) -> u32
 #[tactic(auto, unfolding(crate::specs::Numbers::ones_of))]
 /// How many ones a mask has, where its bits are ones followed by zeros.
 fn ones_of(bits: u32) -> Option<u8>
-    ensures { result ≡ spec.ones_of bits }
+    ensures value { result ≡ spec.ones_of bits }
+    ensures few { IfSome result (λ ones. ones ≤ 32) }
 {
     for ones in 0..33u8 {
         if mask_bits(ones) == bits {
@@ -222,7 +232,11 @@ fn ones_of(bits: u32) -> Option<u8>
 /// The number of ones of a word that is a mask: an address whose bits are ones followed by zeros.
 #[tactic(auto, unfolding(crate::specs::Numbers::mask_of))]
 pub fn parse_mask(word: &[u8]) -> Result<u8, WordFault>
-    ensures { result ≡ spec.mask_of word.now }
+    ensures value { result ≡ spec.mask_of word.now }
+    ensures few { IfOk result (λ ones. ones ≤ 32) }
+    ensures empty { IsErrOf result WordFault.Empty ↔ (length word.now ≡ 0) }
+    ensures not_a_number { IsErrOf result WordFault.NotANumber
+        ↔ IsTrue (not (length word.now == 0) && not (spec.has_address_form word.now)) }
 {
     let addr = parse_addr(word)?;
     match ones_of(addr.0) {

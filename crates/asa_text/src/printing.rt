@@ -1,6 +1,6 @@
 //! Printing at the end of a byte vector. On want of memory the vector has the bytes that it had, and perhaps a part of
 //! the text after them.
-ghost use Rattle.std.specs.Prelude.{◌≡◌, ◌++◌, OnOk, decimal, codes};
+ghost use Rattle.std.specs.Prelude.{◌≡◌, ◌++◌, OnOk, OnErr, decimal, codes};
 ghost use Rattle.asa_text.specs.Printed.{dotted, address_port};
 
 use crate::numbering::Addr;
@@ -9,14 +9,16 @@ use std::alloc::AllocError;
 
 /// Appends these bytes.
 pub fn push_bytes(out: &mut Vec<u8>, bytes: &[u8]) -> Result<(), AllocError>
-    ensures { OnOk result (out.new.items ≡ out.old.items ++ bytes.now) }
+    ensures ok { OnOk result (out.new.items ≡ out.old.items ++ bytes.now) }
+    ensures err { OnErr result (out.new.items ≡ out.old.items) }
 {
     out.extend_from_slice(bytes)
 }
 
 /// Appends a number in decimal.
 pub fn push_number(out: &mut Vec<u8>, number: u64) -> Result<(), AllocError>
-    ensures { OnOk result (out.new.items ≡ out.old.items ++ decimal number) }
+    ensures ok { OnOk result (out.new.items ≡ out.old.items ++ decimal number) }
+    ensures err { OnErr result (out.new.items ≡ out.old.items) }
 {
     let mut digits = Buffer::new();
     push_bytes(out, digits.format(number).as_bytes())

@@ -1,5 +1,5 @@
 //! Readers of a line: each takes its words from a cursor and gives what they mean, or the fault and its column.
-ghost use Rattle.std.specs.Prelude.{◌≡◌, ◌==◌};
+ghost use Rattle.std.specs.Prelude.{◌≡◌, ◌≤◌, ◌==◌, IfOk};
 ghost use Rattle.std.specs.List.{list_any};
 ghost use Rattle.asa_text.specs.Readers.{Reads, word_at, keyword_at, number_at, address_at, mask_at, end_at};
 
@@ -94,7 +94,8 @@ pub fn address(words: &mut Words<'_>) -> Result<Addr, LineFault>
 /// A mask, as its number of ones.
 #[tactic(auto, unfolding(crate::specs::Readers::mask_at))]
 pub fn mask(words: &mut Words<'_>) -> Result<u8, LineFault>
-    ensures { Reads result words.new (mask_at words.old) }
+    ensures value { Reads result words.new (mask_at words.old) }
+    ensures few { IfOk result (λ ones. ones ≤ 32) }
 {
     let word = words.word()?;
     if has_colon(word.bytes()) {

@@ -1,7 +1,7 @@
 //! The words of a line, each with its column.
 ghost use Rattle.std.specs.Prelude.{◌≡◌, ◌+◌, ◌-◌, ◌^◌, ◌<◌, ◌∷◌, [], length, IfSome, IfNone};
 ghost use Rattle.asa_text.specs.Words.{words_at, line_left};
-ghost use Rattle.asa_text.specs.Readers.{next_word, after_one, next_is};
+ghost use Rattle.asa_text.specs.Readers.{next_word, after_one, next_is, column_at};
 
 use crate::scanning::{before_blank, leading_blanks, same_bytes};
 use std::marker::Model;
@@ -132,6 +132,16 @@ impl<'a> Words<'a> {
         match self.peek() {
             Some(word) => same_bytes(word.bytes, text),
             None => false,
+        }
+    }
+
+    /// The column of the next word, or of a missing one.
+    pub fn column(&self) -> u32
+        ensures { result ≡ column_at self.now }
+    {
+        match self.peek() {
+            Some(word) => word.column,
+            None => self.end(),
         }
     }
 

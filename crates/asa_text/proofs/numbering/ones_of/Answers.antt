@@ -5,8 +5,8 @@ use Rattle.asa_text.specs.Numbers.{mask_bits}
 use Rattle.asa_text.proofs.NumberLaws.{find_here, find_on}
 use Rattle.asa_text.proofs.numbering.ones_of.Goals as goal
 
-pub returns-then-mask_bits-bits : goal.returns-then-mask_bits-bits
-returns-then-mask_bits-bits c =
+pub returns-then-mask_bits-bits-clause-value : goal.returns-then-mask_bits-bits-clause-value
+returns-then-mask_bits-bits-clause-value c =
     let ones = c.loop-ones.ones in
     sym (find_here (λ n. mask_bits n == c.args.bits) ones (33 - ones) (omega arith) (eq-eqb _ _ (sym c.mask_bits.ensures ∙ c.if-mask_bits-bits.true))) ∙ c.loop-ones.invariant
 
