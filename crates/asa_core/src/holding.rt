@@ -45,7 +45,8 @@ impl<'a> State<'a> {
     ) -> Result<State<'a>, AllocError>
         requires configured { session.now.config ≡ config_of session.now.startup }
         requires compiled { policy ≡ session.now.config }
-        ensures { IfOk result (λ s. s ≡ init session.now capacity) }
+        ensures started { IfOk result (λ s. s ≡ init session.now capacity) }
+        ensures rules { IfOk result (λ s. ruling s ≡ session.now.config) }
     {
         let conns = Vec::with_capacity(alloc, capacity as usize)?;
         let edits = session.startup.as_slice();

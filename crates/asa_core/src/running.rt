@@ -1,9 +1,10 @@
 //! The serial run of a session.
 ghost use Rattle.std.specs.Prelude.{◌≡◌, ◌+◌, ◌^◌, ◌<◌, ◌≤◌, ◌++◌, length, All, IfOk, IsTrue, OnOk, option_to_list};
+ghost use Rattle.std.specs.List.{flat_map};
 ghost use Rattle.std.specs.Option.{option_map};
 ghost use Rattle.asa_session.specs.Readiness.{IsReady, enters_named};
 ghost use Rattle.asa_core.specs.Machine.{ruling, changed};
-ghost use Rattle.asa_core.specs.Serial.{Progress, started, asked, asked_all, report_of, serial};
+ghost use Rattle.asa_core.specs.Serial.{Progress, started, asked, asked_all, report_of, phases_run, serial};
 
 use crate::answering::{change_by, reply};
 use crate::history::{Entry, Given, Load, PhaseReport};
@@ -89,6 +90,26 @@ fn run_phase(
     })
 }
 
+/// Answers the commands of the phases in order, of which the first is the first of its run.
+fn run_phases(
+    alloc: Global,
+    state: &mut State<'_>,
+    phases: &[PhaseText],
+) -> Result<Items<PhaseReport>, AllocError>
+    requires named { All (λ placed. IsTrue (enters_named (ruling state.old) placed.2)) (flat_map (λ phase. phase.commands) phases.now) }
+    requires fits { length (flat_map (λ phase. phase.commands) phases.now) < 2 ^ 64 }
+    ensures { IfOk result (λ r. r ≡ phases_run state.old 0 phases.now) }
+{
+    let mut reports = Items::new(alloc);
+    let mut before = 0;
+    for phase in phases {
+        let report = run_phase(alloc, state, before, phase)?;
+        before += report.entries.len() as u64;
+        reports.push(report)?;
+    }
+    Ok(reports)
+}
+
 /// Runs the commands of a session one after another: each phase's report has its entries and its answers. Each command
 /// is answered once.
 #[tactic(auto, unfolding(crate::specs::Serial::serial))]
@@ -98,13 +119,5 @@ pub fn run_serial(alloc: Global, session: &Session) -> Result<Items<PhaseReport>
 {
     let policy = compile(alloc, session.config.get())?;
     let mut state = State::new(alloc, session, policy, CAPACITY)?;
-    let mut reports = Items::new(alloc);
-    let mut before = 0;
-    let phases = session.phases.as_slice();
-    for phase in phases {
-        let report = run_phase(alloc, &mut state, before, phase)?;
-        before += report.entries.len() as u64;
-        reports.push(report)?;
-    }
-    Ok(reports)
+    run_phases(alloc, &mut state, session.phases.as_slice())
 }
