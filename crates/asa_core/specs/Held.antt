@@ -1,5 +1,5 @@
 -- What the fields of a state hold.
-use Rattle.std.specs.Prelude.{◌≡◌, ℕ, ◌+◌, ◌≤◌, length, take}
+use Rattle.std.specs.Prelude.{◌≡◌, ◌+◌, ◌≤◌, length, take}
 use Rattle.std.specs.Vec.{vec_capacity}
 use Rattle.asa_config.specs.Steps.{config_of}
 use Rattle.asa_core.specs.declared.holding.State.TheInside.{Inside}

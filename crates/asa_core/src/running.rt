@@ -4,6 +4,7 @@ ghost use Rattle.std.specs.List.{flat_map};
 ghost use Rattle.std.specs.Option.{option_map};
 ghost use Rattle.asa_session.specs.Readiness.{IsReady, enters_named};
 ghost use Rattle.asa_core.specs.Machine.{ruling, changed};
+ghost use Rattle.asa_core.specs.Numbering.{IsNumbered};
 ghost use Rattle.asa_core.specs.Serial.{Progress, started, asked, asked_all, report_of, phases_run, serial};
 
 use crate::answering::{change_by, reply};
@@ -112,10 +113,11 @@ fn run_phases(
 
 /// Runs the commands of a session one after another: each phase's report has its entries and its answers. Each command
 /// is answered once.
-#[tactic(auto, unfolding(crate::specs::Serial::serial))]
+#[tactic(auto, using(crate::proofs::NumberLaws::serial_numbered), unfolding(crate::specs::Serial::serial))]
 pub fn run_serial(alloc: Global, session: &Session) -> Result<Items<PhaseReport>, AllocError>
     requires { IsReady session.now }
-    ensures { IfOk result (λ r. r ≡ serial session.now) }
+    ensures serial { IfOk result (λ r. r ≡ serial session.now) }
+    ensures numbered { IfOk result (λ r. All (λ phase. All IsNumbered phase.given) r) }
 {
     let policy = compile(alloc, session.config.get())?;
     let mut state = State::new(alloc, session, policy, CAPACITY)?;
