@@ -9,8 +9,11 @@ use Rattle.asa_text.specs.Readers.{Read, ◌>>=◌, word_at}
 abbrev pub is_graphic : ℕ → Bool
 is_graphic b = nat_le 33 b && nat_le b 126
 
+abbrev pub has_name_length : List ℕ → Bool
+has_name_length word = not (length word == 0) && nat_le (length word) 64
+
 abbrev pub is_name : List ℕ → Bool
-is_name word = not (length word == 0) && nat_le (length word) 64 && list_all is_graphic word
+is_name word = has_name_length word && list_all is_graphic word
 
 -- a name; a word that can't be one is Bad
 unfoldable pub name_at : Left → Read (List ℕ)

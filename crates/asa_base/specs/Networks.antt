@@ -1,10 +1,13 @@
 -- Networks: an address whose host bits are zero, and the number of its leading bits that a covered address shares.
-use Rattle.std.specs.Prelude.{ℕ, ◌-◌, ◌/◌, ◌%◌, ◌^◌, Bool, ◌&&◌, ◌==◌, nat_le, List, codes, Result, Ok, Err, if◌then◌else◌}
+use Rattle.std.specs.Prelude.{ℕ, ◌-◌, ◌/◌, ◌%◌, ◌^◌, Bool, ◌&&◌, ◌==◌, nat_le, codes, Ok, Err, if◌then◌else◌}
 use Rattle.asa_text.specs.declared.numbering.Addr.{Addr}
 use Rattle.asa_text.specs.declared.reading.LineFault.TheVariants.{Bad}
-use Rattle.asa_text.specs.Words.{Spelled, Left}
+use Rattle.asa_text.specs.Words.{Left}
 use Rattle.asa_text.specs.Readers.{Read, ◌>>=◌, word_at, after_one, next_is, address_at, mask_at}
-use Rattle.asa_base.specs.declared.networking.Prefix.{Prefix}
+
+pub record Network : Type 0 where
+  pub addr : Addr
+  pub len : ℕ
 
 -- how many addresses share the leading bits
 abbrev pub block_size : ℕ → ℕ
@@ -19,7 +22,7 @@ abbrev pub same_network : ℕ → ℕ → ℕ → Bool
 same_network len a b = a / block_size len == b / block_size len
 
 -- the prefix covers the address
-abbrev pub covers : Prefix → Addr → Bool
+abbrev pub covers : Network → Addr → Bool
 covers p a = same_network p.len p.addr.0 a.0
 
 -- an address, or the single word `0` for 0.0.0.0
@@ -31,13 +34,13 @@ unfoldable pub zero_or_mask_at : Left → Read ℕ
 zero_or_mask_at left = if next_is (codes "0") left then Ok (0, after_one left) else mask_at left
 
 -- the network of an address and of a mask that stands at a column; host bits that aren't zero are Bad at the mask
-abbrev pub network_or_bad : ℕ → Addr → ℕ → Left → Read Prefix
+abbrev pub network_or_bad : ℕ → Addr → ℕ → Left → Read Network
 network_or_bad column a len rest = if a.0 % block_size len == 0 then Ok (record { addr = a; len = len }, rest) else Err (Bad column)
 
 -- `A M` of a list line or an object
-unfoldable pub network_at : Left → Read Prefix
+unfoldable pub network_at : Left → Read Network
 network_at left = address_at left >>= λ (a, l). word_at l >>= λ (w, _). mask_at l >>= λ (len, l2). network_or_bad w.column a len l2
 
 -- `A M` of a route line, where `0` stands for 0.0.0.0 at each place
-unfoldable pub route_network_at : Left → Read Prefix
+unfoldable pub route_network_at : Left → Read Network
 route_network_at left = zero_or_address_at left >>= λ (a, l). word_at l >>= λ (w, _). zero_or_mask_at l >>= λ (len, l2). network_or_bad w.column a len l2

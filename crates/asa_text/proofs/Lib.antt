@@ -1,1 +1,4 @@
+pub mod BlockLaws
 pub mod LineLaws
+pub mod WordLaws
+pub mod NumberLaws

@@ -4,3 +4,5 @@ pub mod Words
 pub mod Numbers
 pub mod Readers
 pub mod Printed
+pub mod Building
+pub mod Runs

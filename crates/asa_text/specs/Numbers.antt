@@ -25,10 +25,6 @@ runs word = slice_split (λ b. b == 46) word
 abbrev pub is_number : List ℕ → Bool
 is_number run = not (length run == 0) && list_all is_digit run
 
--- four runs of digits joined by three dots
-abbrev pub has_address_form : List ℕ → Bool
-has_address_form word = (length (runs word) == 4) && list_all is_number (runs word)
-
 -- a run of at most three digits that stands for a byte
 abbrev pub is_octet : List ℕ → Bool
 is_octet run = nat_le (length run) 3 && nat_le (digits_value 10 run) 255
@@ -37,19 +33,24 @@ is_octet run = nat_le (length run) 3 && nat_le (digits_value 10 run) 255
 abbrev pub octets_value : List (List ℕ) → ℕ
 octets_value rs = fold (λ v run. v * 256 + digits_value 10 run) 0 rs
 
--- the address of a word
+-- the address of four runs
+abbrev pub address_of_runs : List (List ℕ) → Result Addr WordFault
+address_of_runs rs =
+    if not (list_all is_number rs) then Err NotANumber
+    else (if not (list_all is_octet rs) then Err OutOfRange else Ok (record { 0 = octets_value rs }))
+
+-- the address of a word: four runs of digits joined by three dots
 unfoldable pub address_of : List ℕ → Result Addr WordFault
 address_of word =
     if length word == 0 then Err Empty
-    else (if not (has_address_form word) then Err NotANumber
-    else (if not (list_all is_octet (runs word)) then Err OutOfRange else Ok (record { 0 = octets_value (runs word) })))
+    else (if length (runs word) == 4 then address_of_runs (runs word) else Err NotANumber)
 
 -- the 32 bits of a mask with this many ones, followed by zeros
 abbrev pub mask_bits : ℕ → ℕ
 mask_bits ones = 2 ^ 32 - 2 ^ (32 - ones)
 
 -- how many ones a mask has, where its bits are ones followed by zeros
-abbrev pub ones_of : ℕ → Option ℕ
+unfoldable pub ones_of : ℕ → Option ℕ
 ones_of bits = find (λ ones. mask_bits ones == bits) (range_with_len 0 33)
 
 -- the number of ones of a word that is a mask

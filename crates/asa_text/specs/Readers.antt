@@ -14,7 +14,6 @@ abbrev pub Read : Type 0 → Type 0
 Read X = Result (X × Left) LineFault
 
 infixl 10 ◌>>=◌
-
 -- read one thing, then go on with it and with what is left; a fault ends the reading
 abbrev pub ◌>>=◌ : {X Y : Type 0} → Read X → (X × Left → Read Y) → Read Y
 (Ok read) >>= more = more read

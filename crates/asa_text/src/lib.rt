@@ -2,6 +2,7 @@
 //! readers of a line, and printing.
 #![tactic(auto)]
 
+mod building;
 mod grouping;
 mod lining;
 mod listing;
@@ -11,9 +12,10 @@ mod reading;
 mod scanning;
 mod wording;
 
-pub use grouping::{Block, BlockFault, BlockLines};
+pub use grouping::{Block, BlockFault, BlockLines, StartupText, cut_blocks, cut_startup};
 pub use lining::{Line, LineView, Lines, Text};
 pub use listing::Items;
-pub use numbering::{Addr, WordFault};
-pub use reading::LineFault;
+pub use numbering::{Addr, WordFault, is_digit, mask_bits, parse_addr, parse_mask, parse_number};
+pub use printing::{push_address, push_address_port, push_bytes, push_number};
+pub use reading::{LineFault, address, end_of_line, keyword, mask, number};
 pub use wording::{Word, Words};

@@ -104,7 +104,10 @@ fn cut_line(bytes: &[u8]) -> (&[u8], &[u8])
 {
     let end = before_line_feed(bytes);
     if end < bytes.len() {
-        (without_return(bytes.split_at(end).0), bytes.split_at(end + 1).1)
+        (
+            without_return(bytes.split_at(end).0),
+            bytes.split_at(end + 1).1,
+        )
     } else {
         (bytes, &[])
     }
@@ -204,6 +207,7 @@ impl<'a> Lines<'a> {
     /// The next line.
     #[tactic(auto, using(crate::proofs::LineLaws::lines_next, crate::proofs::LineLaws::lines_none))]
     pub fn next(&mut self) -> Option<LineView<'a>>
+        ensures few { self.new.number < 2 ^ 32 - 1 }
         ensures none { IfNone result ((self.old.lines ≡ []) × (self.new ≡ self.old)) }
         ensures first { IfSome result (λ l. self.old.lines ≡ l ∷ self.new.lines) }
         ensures numbers { IfSome result (λ l. (l.number ≡ self.old.number) × (self.new.number ≡ self.old.number + 1)) }

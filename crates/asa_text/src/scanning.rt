@@ -1,5 +1,5 @@
 //! Places in bytes where a run ends. Each is a loop of its own over the bytes.
-ghost use Rattle.std.specs.Prelude.{◌≡◌, ◌==◌};
+ghost use Rattle.std.specs.Prelude.{◌≡◌, ◌==◌, ◌≤◌, length};
 ghost use Rattle.std.specs.List.{position_or_len, prefix_len};
 ghost use Rattle.std.specs.Str.{bytes_eq};
 ghost use Rattle.std.specs.Str.Lines.{strip_carriage_return};
@@ -21,7 +21,8 @@ pub(crate) fn same_bytes(a: &[u8], b: &[u8]) -> bool
 
 /// How many bytes stand before the first line feed, or all of them.
 pub(crate) fn before_line_feed(bytes: &[u8]) -> usize
-    ensures { result ≡ position_or_len (λ b. b == 10) bytes.now }
+    ensures value { result ≡ position_or_len (λ b. b == 10) bytes.now }
+    ensures within { result ≤ length bytes.now }
 {
     for (i, b) in bytes.iter().enumerate() {
         if *b == b'\n' {
@@ -33,7 +34,8 @@ pub(crate) fn before_line_feed(bytes: &[u8]) -> usize
 
 /// How many bytes stand before the first dot, or all of them.
 pub(crate) fn before_dot(bytes: &[u8]) -> usize
-    ensures { result ≡ position_or_len (λ b. b == 46) bytes.now }
+    ensures value { result ≡ position_or_len (λ b. b == 46) bytes.now }
+    ensures within { result ≤ length bytes.now }
 {
     for (i, b) in bytes.iter().enumerate() {
         if *b == b'.' {
@@ -45,7 +47,8 @@ pub(crate) fn before_dot(bytes: &[u8]) -> usize
 
 /// How many bytes stand before the first blank, or all of them.
 pub(crate) fn before_blank(bytes: &[u8]) -> usize
-    ensures { result ≡ position_or_len is_blank_byte bytes.now }
+    ensures value { result ≡ position_or_len is_blank_byte bytes.now }
+    ensures within { result ≤ length bytes.now }
 {
     for (i, b) in bytes.iter().enumerate() {
         if is_blank(*b) {
@@ -57,7 +60,8 @@ pub(crate) fn before_blank(bytes: &[u8]) -> usize
 
 /// How many blanks the bytes begin with.
 pub(crate) fn leading_blanks(bytes: &[u8]) -> usize
-    ensures { result ≡ prefix_len is_blank_byte bytes.now }
+    ensures value { result ≡ prefix_len is_blank_byte bytes.now }
+    ensures within { result ≤ length bytes.now }
 {
     for (i, b) in bytes.iter().enumerate() {
         if !is_blank(*b) {

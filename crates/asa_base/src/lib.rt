@@ -1,0 +1,14 @@
+//! The values that every layer speaks of: names, networks, ranges, packets and their keys, and values that are read only
+//! at a count. It stands on the text layer and hands its types on.
+#![tactic(auto)]
+
+mod counting;
+mod flowing;
+mod naming;
+mod networking;
+
+pub use asa_text::{Addr, LineFault, WordFault};
+pub use counting::{Counter, Sealed};
+pub use flowing::{AccessBy, Header, Key, NatPlace, Packet};
+pub use naming::Name;
+pub use networking::{Prefix, same_network};
