@@ -1,5 +1,5 @@
 -- The words of the report for what was decided.
-use Rattle.std.specs.Prelude.{ℕ, List, [], ◌∷◌, ◌++◌, codes, decimal, slice_get, Option, Some, None}
+use Rattle.std.specs.Prelude.{ℕ, List, [], ◌++◌, codes, decimal, slice_get, Option, Some, None}
 use Rattle.asa_text.specs.Printed.{address_port}
 use Rattle.asa_base.specs.declared.flowing.Header.{Header}
 use Rattle.asa_base.specs.declared.flowing.NatPlace.{NatPlace}

@@ -5,6 +5,8 @@
 mod describing;
 mod reporting;
 mod telling;
+#[cfg(test)]
+mod tests;
 
 pub use reporting::write_report;
 pub use telling::{

@@ -11,7 +11,7 @@ use itoa::Buffer;
 use std::marker::Model;
 
 /// Why something is refused: a text of at most 72 bytes, which holds every fault's.
-#[derive(Drop)]
+#[derive(Debug, Drop)]
 pub struct ReasonText {
     bytes: ArrayVec<u8, 72>,
 }
@@ -27,7 +27,7 @@ impl Model for ReasonText {
 }
 
 /// A line of standard error with its line feed, at most 128 bytes.
-#[derive(Drop)]
+#[derive(Debug, Drop)]
 pub struct StatusLine {
     bytes: ArrayVec<u8, 128>,
 }
