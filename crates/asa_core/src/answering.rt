@@ -2,27 +2,13 @@
 ghost use Rattle.std.specs.Prelude.{◌≡◌, IsTrue};
 ghost use Rattle.asa_session.specs.Readiness.{enters_named};
 ghost use Rattle.asa_core.specs.Machine.{ruling, out_of, decided, reply, opened, load_of, entry_of, change_by, change};
-ghost use Rattle.asa_policy.specs.Deciding.{IsBegun};
 
 use crate::history::{Answer, Conn, Entry, Load};
 use crate::holding::State;
 use crate::keys::{key_of, reply_key};
-use arrayvec::ArrayVec;
 use asa_base::{Counter, Header, Packet};
-use asa_policy::{Decision, Detail, DropReason, Phase, Step, Trail};
+use asa_policy::{Decision, DropReason, begun_trail};
 use asa_session::Command;
-
-/// A trail that begins with the look-up of the packet's key, which finds no connection.
-fn looked_up() -> Trail
-    ensures { IsBegun result.items }
-{
-    let mut trail = ArrayVec::new();
-    trail.push(Step {
-        phase: Phase::FlowLookup,
-        detail: Detail::None,
-    });
-    trail
-}
 
 /// The header with which a packet leaves.
 fn out_of(p: &Packet, decision: &Decision) -> Header
@@ -63,7 +49,7 @@ pub fn reply(s: &State<'_>, command: &Command) -> Answer
 {
     match command {
         Command::Packet(p) => {
-            let mut trail = looked_up();
+            let mut trail = begun_trail();
             let mut counter = Counter::new();
             let outcome = s.policy().decide(p, &mut trail, &mut counter);
             answer_of(s, p, outcome)

@@ -13,3 +13,6 @@ pub use history::{Answer, Conn, Entry, Given, Load, PhaseReport};
 pub use holding::{State, apply};
 pub use keys::{header_of, key_of, reply_key};
 pub use running::run_serial;
+
+#[cfg(test)]
+mod tests;
