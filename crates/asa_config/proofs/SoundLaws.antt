@@ -1,17 +1,17 @@
 -- A step keeps what holds of every configuration.
-use Rattle.std.proofs.Common.{◌≡◌, ℕ, ◌+◌, ◌<◌, ◌≤◌, ◌==◌, Bool, true, false, cond, ◌&&◌, nat_lt, if◌then◌else◌, List, [], ◌∷◌, ◌++◌, length, Option, Some, None, is_some, Result, Ok, Err, OnOk, OnErr, refl, sym, ap, subst, ◌∙◌, suc, arith, length-append}
+use Rattle.std.proofs.Common.{◌≡◌, ℕ, ◌+◌, ◌<◌, ◌≤◌, ◌==◌, Bool, true, false, cond, ◌&&◌, nat_lt, if◌then◌else◌, List, [], ◌∷◌, ◌++◌, length, All, Option, Some, None, is_some, Result, Ok, Err, OnOk, OnErr, refl, sym, ap, subst, ◌∙◌, suc, arith, length-append}
 use Rattle.std.specs.List.{list_all}
 use Rattle.std.specs.Map.{lookup, set_value}
 use Rattle.std.specs.Str.{bytes_eq}
 use Rattle.std.proofs.lemmas.Bool.{and_parts, and_from, ltb-true, lt-ltb, ltb-false}
-use Rattle.std.proofs.lemmas.List.Folds.{list_all-append}
+use Rattle.std.proofs.lemmas.List.Sums.{AllPass-from_list_all}
 use Rattle.asa_config.specs.declared.holding.Iface.{Iface}
 use Rattle.asa_config.specs.declared.holding.RouteLine.{RouteLine}
 use Rattle.asa_config.specs.declared.holding.ListLine.{ListLine}
 use Rattle.asa_config.specs.declared.holding.EditRefusal.{EditRefusal}
 use Rattle.asa_config.specs.declared.holding.EditRefusal.TheVariants.{At, NoMemory}
 use Rattle.asa_config.specs.Building.{Makes, and_then, unbuilt_at}
-use Rattle.asa_config.specs.Settings.{Settings, lines_among}
+use Rattle.asa_config.specs.Settings.{Settings, lines_among, bound_among}
 use Rattle.asa_config.specs.Soundness.{IsSound, all_leave, all_bound, all_defined}
 use Rattle.asa_config.specs.Interfaces.{with_interface}
 use Rattle.asa_config.specs.Routes.{with_route, same_route, routes_step}
@@ -65,13 +65,13 @@ few_from_step qs new r e = by (nat_lt 4096 (length (with_route qs r))) (ltb-fals
 sound_routes : (c : Settings) (r : RouteLine) (new : List RouteLine) → IsSound c → r.ifc < length c.ifaces → (length new ≤ 4096) × (new ≡ with_route c.routes r)
     → IsSound (record c { routes = new })
 sound_routes c r new sound leaves step = record {
-      few_ifaces = sound.few_ifaces;
-      few_routes = step.0;
-      few_lists = sound.few_lists;
-      leave = subst (λ rs. all_leave (length c.ifaces) rs ≡ true) (sym step.1) (list_all-with_route (λ r. nat_lt r.ifc (length c.ifaces)) c.routes r sound.leave (lt-ltb r.ifc (length c.ifaces) leaves));
-      bound = sound.bound;
-      defined = sound.defined;
-    }
+  few_ifaces = sound.few_ifaces;
+  few_routes = step.0;
+  few_lists = sound.few_lists;
+  leave = subst (λ rs. all_leave (length c.ifaces) rs ≡ true) (sym step.1) (list_all-with_route (λ r. nat_lt r.ifc (length c.ifaces)) c.routes r sound.leave (lt-ltb r.ifc (length c.ifaces) leaves));
+  bound = sound.bound;
+  defined = sound.defined;
+}
 
 -- a route line
 pub sound_route : (result : Result (Unit {0}) EditRefusal) (c : Settings) (r : RouteLine) (new : List RouteLine) → IsSound c → r.ifc < length c.ifaces
@@ -127,15 +127,15 @@ record Keeps (old new : Lists) : Type 0 where
 
 keeps_written : (old : Lists) (name : List ℕ) (lines : List ListLine) → Keeps old (set_value (bytes_eq name) old lines)
 keeps_written old name lines = record {
-      few = λ h. subst (λ n. n ≤ 1024) (sym (length-set_value (bytes_eq name) old lines)) h;
-      there = λ other h. found_set (λ n. bytes_eq other n) old (bytes_eq name) lines ∙ h;
-    }
+  few = λ h. subst (λ n. n ≤ 1024) (sym (length-set_value (bytes_eq name) old lines)) h;
+  there = λ other h. found_set (λ n. bytes_eq other n) old (bytes_eq name) lines ∙ h;
+}
 
 keeps_begun : (old : Lists) (name : List ℕ) (lines : List ListLine) → length old < 1024 → Keeps old (old ++ (name, lines) ∷ [])
 keeps_begun old name lines room = record {
-      few = λ h. omega (arith, one_more old (name, lines));
-      there = λ other h. found_append (λ n. bytes_eq other n) old ((name, lines) ∷ []) h;
-    }
+  few = λ h. omega (arith, one_more old (name, lines));
+  there = λ other h. found_append (λ n. bytes_eq other n) old ((name, lines) ∷ []) h;
+}
 
 keeps_after : (old new : Lists) (name : List ℕ) (line : ListLine) (found : Option (List ListLine)) → lists_after old name line found ≡ Ok new → Keeps old new
 keeps_after old new name line (Some lines) e = by (lines_step lines line) e
@@ -155,13 +155,13 @@ keeps_step old new name line e = keeps_after old new name line (lines_among old 
 
 sound_lists : (c : Settings) (new : Lists) → IsSound c → Keeps c.lists new → IsSound (record c { lists = new })
 sound_lists c new sound keeps = record {
-      few_ifaces = sound.few_ifaces;
-      few_routes = sound.few_routes;
-      few_lists = keeps.few sound.few_lists;
-      leave = sound.leave;
-      bound = sound.bound;
-      defined = list_all-weaker (λ b. is_some (lines_among c.lists b.1)) (λ b. is_some (lines_among new b.1)) (λ b h. keeps.there b.1 h) c.inbound sound.defined;
-    }
+  few_ifaces = sound.few_ifaces;
+  few_routes = sound.few_routes;
+  few_lists = keeps.few sound.few_lists;
+  leave = sound.leave;
+  bound = sound.bound;
+  defined = list_all-weaker (λ b. is_some (lines_among c.lists b.1)) (λ b. is_some (lines_among new b.1)) (λ b h. keeps.there b.1 h) c.inbound sound.defined;
+}
 
 -- a list line
 pub sound_line : (result : Result (Unit {0}) EditRefusal) (c : Settings) (name : List ℕ) (line : ListLine) (new : Lists) → IsSound c
@@ -185,13 +185,13 @@ list_all-with_binding p (b ∷ bs) ifc name all one =
 sound_group : (c : Settings) (ifc : ℕ) (name : List ℕ) → IsSound c → ifc < length c.ifaces → is_some (lines_among c.lists name) ≡ true
     → IsSound (with_inbound c ifc name)
 sound_group c ifc name sound enters there = record {
-      few_ifaces = sound.few_ifaces;
-      few_routes = sound.few_routes;
-      few_lists = sound.few_lists;
-      leave = sound.leave;
-      bound = list_all-with_binding (λ b. nat_lt b.0 (length c.ifaces)) c.inbound ifc name sound.bound (lt-ltb ifc (length c.ifaces) enters);
-      defined = list_all-with_binding (λ b. is_some (lines_among c.lists b.1)) c.inbound ifc name sound.defined there;
-    }
+  few_ifaces = sound.few_ifaces;
+  few_routes = sound.few_routes;
+  few_lists = sound.few_lists;
+  leave = sound.leave;
+  bound = list_all-with_binding (λ b. nat_lt b.0 (length c.ifaces)) c.inbound ifc name sound.bound (lt-ltb ifc (length c.ifaces) enters);
+  defined = list_all-with_binding (λ b. is_some (lines_among c.lists b.1)) c.inbound ifc name sound.defined there;
+}
 
 -- an access group
 pub sound_bound : {E : Type 0} (result : Result (Unit {0}) E) (c : Settings) (ifc : ℕ) (name : List ℕ) (new : List (ℕ × List ℕ)) → IsSound c
@@ -199,3 +199,20 @@ pub sound_bound : {E : Type 0} (result : Result (Unit {0}) E) (c : Settings) (if
     → IsSound (record c { inbound = new })
 sound_bound (Ok u) c ifc name new sound enters there ok err = subst (λ bs. IsSound (record c { inbound = bs })) (sym ok) (sound_group c ifc name sound enters there)
 sound_bound (Err e) c ifc name new sound enters there ok err = subst (λ bs. IsSound (record c { inbound = bs })) (sym err) sound
+
+-- each route leaves by an interface that is there
+pub routes_leave : (n : ℕ) (rs : List RouteLine) → all_leave n rs ≡ true → All (λ r. r.ifc < n) rs
+routes_leave n rs h k d lt = ltb-true _ _ (AllPass-from_list_all (λ r. nat_lt r.ifc n) rs h k d lt)
+
+-- the list of a binding is defined
+pub bound_is_defined : (lists : Lists) (bs : List (ℕ × List ℕ)) (ifc : ℕ) (name : List ℕ) → all_defined lists bs ≡ true → bound_among bs ifc ≡ Some name
+    → is_some (lines_among lists name) ≡ true
+bound_is_defined lists [] ifc name all found = absurd (cc)
+bound_is_defined lists (b ∷ bs) ifc name all found =
+    let parts = and_parts (is_some (lines_among lists b.1)) (all_defined lists bs) all in
+    by (ifc == b.0) found parts.0 (λ there. bound_is_defined lists bs ifc name parts.1 there)
+  where
+    by : (t : Bool) → cond t (Some b.1) (bound_among bs ifc) ≡ Some name → is_some (lines_among lists b.1) ≡ true
+        → (bound_among bs ifc ≡ Some name → is_some (lines_among lists name) ≡ true) → is_some (lines_among lists name) ≡ true
+    by true here first more = let same : b.1 ≡ name = cc in subst (λ n. is_some (lines_among lists n) ≡ true) same first
+    by false there first more = more there

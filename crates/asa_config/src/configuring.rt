@@ -1,11 +1,12 @@
 //! A configuration and its readers.
-ghost use Rattle.std.specs.Prelude.{◌≡◌, ◌<◌, ◌≤◌, length, true, IfSome, OnOk, OnErr, is_some, position};
-ghost use Rattle.asa_config.specs.Building.{Makes};
+ghost use Rattle.std.specs.Prelude.{◌≡◌, ◌<◌, ◌≤◌, length, true, All, None, Some, IfNone, IfOk, IfSome, OnOk, OnErr, is_some, position, slice_get};
+ghost use Rattle.std.specs.Option.{option_copied};
+ghost use Rattle.asa_config.specs.Building.{Gives, Makes};
 ghost use Rattle.asa_config.specs.Interfaces.{interface_step, with_interface};
 ghost use Rattle.asa_config.specs.Lists.{group_step, line_added, list_step, with_inbound};
 ghost use Rattle.asa_config.specs.Routes.{route_added, route_step};
 ghost use Rattle.asa_config.specs.Settings as spec;
-ghost use Rattle.asa_config.specs.Settings.{nothing, interface_of, lines_of};
+ghost use Rattle.asa_config.specs.Settings.{bound_to, interface_of, is_named, lines_of, nothing};
 ghost use Rattle.asa_config.specs.Steps.{step};
 
 use crate::building::{top_words, unbuilt};
@@ -20,7 +21,7 @@ use std::alloc::{AllocError, Global};
 use std::marker::Model;
 
 /// A configuration: its interfaces, routes, access lists and access groups.
-#[derive(Drop)]
+#[derive(Debug, Drop)]
 pub struct Config {
     ifaces: Vec<Iface>,
     routes: Vec<RouteLine>,
@@ -76,9 +77,76 @@ impl Config {
     /// The interfaces in the order of their blocks; an interface's number is its place, from 0.
     pub fn ifaces(&self) -> &[Iface]
         ensures value { result.now ≡ self.now.ifaces }
-        ensures few { length self.now.ifaces ≤ 64 }
+        ensures few { length result.now ≤ 64 }
     {
         self.ifaces.as_slice()
+    }
+
+    /// The interface with this number.
+    pub fn interface_named(&self, ifc: u8) -> &Iface
+        requires { ifc < length self.now.ifaces }
+        ensures { slice_get self.now.ifaces ifc ≡ Some result.now }
+    {
+        &self.ifaces()[usize::from(ifc)]
+    }
+
+    /// Whether there is an interface with this number, and it has a name.
+    pub fn is_named(&self, ifc: u8) -> bool
+        ensures { result ≡ is_named self.now ifc }
+    {
+        match self.ifaces().get(usize::from(ifc)) {
+            Some(iface) => iface.name.is_some(),
+            None => false,
+        }
+    }
+
+    /// The route lines in order.
+    #[tactic(auto, using(crate::proofs::SoundLaws::routes_leave))]
+    pub fn routes(&self) -> &[RouteLine]
+        ensures value { result.now ≡ self.now.routes }
+        ensures few { length result.now ≤ 4096 }
+        ensures leave { All (λ r. r.ifc < length self.now.ifaces) result.now }
+    {
+        self.routes.as_slice()
+    }
+
+    /// The list that is bound to the inbound side of an interface, or None exactly where none is.
+    pub fn inbound_list(&self, ifc: u8) -> Option<InboundList<'_>>
+        ensures none { IfNone result (bound_to self.now ifc ≡ None) }
+        ensures list { IfSome result (λ l. (bound_to self.now ifc ≡ Some l.name.now) × (lines_of self.now l.name.now ≡ Some l.lines.now)) }
+        ensures few { IfSome result (λ l. length l.lines.now ≤ 65536) }
+    {
+        let name = list_bound_to(self.inbound.as_slice(), ifc)?;
+        match self.lists.get(name) {
+            Some(lines) => Some(InboundList {
+                name,
+                lines: lines.as_slice(),
+            }),
+            None => unreachable!(),
+        }
+    }
+
+    /// A copy.
+    pub fn copy(&self) -> Result<Config, AllocError>
+        ensures { IfOk result (λ c. c ≡ self.now) }
+    {
+        Ok(Config {
+            ifaces: copy_ifaces(self.alloc, self.ifaces.as_slice())?,
+            routes: Vec::from_slice(self.alloc, self.routes.as_slice())?,
+            lists: copy_lists(&self.lists)?,
+            inbound: copy_bindings(self.alloc, self.inbound.as_slice())?,
+            alloc: self.alloc,
+        })
+    }
+
+    /// The configuration after a block, taken as a whole or not at all; this one stays. `startup` tells that the block
+    /// stands before `: end`.
+    pub fn edit(&self, block: &Block, startup: bool) -> Result<Config, EditRefusal>
+        ensures { Gives result (step self.now block.now startup) }
+    {
+        let mut next = self.copy()?;
+        next.step(block, startup)?;
+        Ok(next)
     }
 
     /// The number of the interface that has this name.
@@ -212,4 +280,45 @@ fn place_of(ifaces: &[Iface], name: &Name) -> Option<usize>
     ensures within { IfSome result (λ n. n < length ifaces.now) }
 {
     ifaces.iter().position(|i| has_name(i, name))
+}
+
+/// A copy of the interfaces.
+fn copy_ifaces(alloc: Global, ifaces: &[Iface]) -> Result<Vec<Iface>, AllocError>
+    ensures { IfOk result (λ v. v.items ≡ ifaces.now) }
+{
+    let mut copied = Vec::with_capacity(alloc, ifaces.len())?;
+    for iface in ifaces {
+        copied.push(iface.copy())?;
+    }
+    Ok(copied)
+}
+
+/// A copy of the bindings.
+fn copy_bindings(alloc: Global, bindings: &[(u8, Name)]) -> Result<Vec<(u8, Name)>, AllocError>
+    ensures { IfOk result (λ v. v.items ≡ bindings.now) }
+{
+    let mut copied = Vec::with_capacity(alloc, bindings.len())?;
+    for binding in bindings {
+        copied.push((binding.0, binding.1.copy()))?;
+    }
+    Ok(copied)
+}
+
+/// A copy of the lists.
+fn copy_lists(lists: &IndexMap<Name, ListLines>) -> Result<IndexMap<Name, ListLines>, AllocError>
+    ensures { IfOk result (λ m. m.entries ≡ lists.now.entries) }
+{
+    lists.clone()
+}
+
+/// The name of the list that is bound to an interface.
+fn list_bound_to(bindings: &[(u8, Name)], ifc: u8) -> Option<&Name>
+    ensures { option_copied result ≡ spec.bound_among bindings.now ifc }
+{
+    for (number, name) in bindings {
+        if ifc == *number {
+            return Some(name);
+        }
+    }
+    None
 }
