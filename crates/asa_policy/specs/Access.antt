@@ -1,5 +1,5 @@
 -- Which line of a list decides a packet, and the level rule.
-use Rattle.std.specs.Prelude.{ℕ, ◌+◌, Bool, true, false, ◌&&◌, ◌==◌, nat_lt, is_some, List, Option, Some, None, slice_get, if◌then◌else◌}
+use Rattle.std.specs.Prelude.{ℕ, ◌+◌, Bool, true, false, ◌&&◌, ◌==◌, nat_lt, List, Option, Some, None, slice_get, if◌then◌else◌}
 use Rattle.std.specs.List.{position}
 use Rattle.std.specs.Option.{option_map}
 use Rattle.asa_text.specs.declared.numbering.Addr.{Addr}
@@ -16,14 +16,6 @@ use Rattle.asa_policy.specs.declared.outcomes.AccessVerdict.TheVariants.{Permit,
 -- the interface with this number
 abbrev pub iface_at : Settings → ℕ → Option Iface
 iface_at c ifc = slice_get c.ifaces ifc
-
--- the interface with this number is a named one
-abbrev pub is_named : Settings → ℕ → Bool
-is_named c ifc = of_iface (iface_at c ifc)
-  where
-    of_iface : Option Iface → Bool
-    of_iface None = false
-    of_iface (Some i) = is_some i.name
 
 -- the level of the interface with this number
 unfoldable pub level_at : Settings → ℕ → ℕ

@@ -1,9 +1,8 @@
 //! A configuration compiled for deciding flows.
 ghost use Rattle.std.specs.Prelude.{◌≡◌, IfOk};
-ghost use Rattle.asa_policy.specs.Access.{is_named};
+ghost use Rattle.asa_config.specs.Settings.{is_named};
 ghost use Rattle.asa_policy.specs.Routing.{candidates};
 
-use crate::admitting::iface_at;
 use crate::routing::{self, Candidate};
 use asa_config::Config;
 use std::alloc::{AllocError, Global};
@@ -50,10 +49,7 @@ impl Policy {
     pub fn is_named(&self, ifc: u8) -> bool
         ensures { result ≡ is_named self.now ifc }
     {
-        match iface_at(&self.config, ifc) {
-            Some(iface) => iface.name.is_some(),
-            None => false,
-        }
+        self.config.is_named(ifc)
     }
 
     /// The ways to networks.

@@ -1,7 +1,7 @@
 //! The decision of a packet, step by step up to the first drop.
 ghost use Rattle.std.specs.Prelude.{◌≡◌, ◌++◌, ◌+◌, ◌≤◌, ◌<◌, ◌∷◌, [], None, Some, Ok, Err, IfOk, IfErr, IfSome, IsTrue, length, position};
 ghost use Rattle.arrayvec.specs.ArrayVec.{array_vec_len};
-ghost use Rattle.asa_policy.specs.Access.{is_named};
+ghost use Rattle.asa_config.specs.Settings.{is_named};
 ghost use Rattle.asa_policy.specs.Routing.{route_of};
 ghost use Rattle.asa_policy.specs.Deciding as spec;
 
