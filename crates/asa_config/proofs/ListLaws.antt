@@ -55,9 +55,10 @@ list_made (Ok u) es made name line old new found wrote makes =
     ap (lists_after es name line) (sym found) ∙ ap (λ s. and_then s (λ more. Ok (set_value (bytes_eq name) es more))) makes ∙ ap Ok (sym wrote)
 list_made (Err NoMemory) es made name line old new found wrote makes =
     wrote ∙ ap (set_value (bytes_eq name) es) makes ∙ set_value_same (bytes_eq name) es old found
-list_made (Err (At n fault)) es made name line old new found wrote makes =
-    (ap (lists_after es name line) (sym found) ∙ ap (λ s. and_then s (λ more. Ok (set_value (bytes_eq name) es more))) makes.0,
-     wrote ∙ ap (set_value (bytes_eq name) es) makes.1 ∙ set_value_same (bytes_eq name) es old found)
+list_made (Err (At n fault)) es made name line old new found wrote makes = (
+  ap (lists_after es name line) (sym found) ∙ ap (λ s. and_then s (λ more. Ok (set_value (bytes_eq name) es more))) makes.0,
+  wrote ∙ ap (set_value (bytes_eq name) es) makes.1 ∙ set_value_same (bytes_eq name) es old found,
+)
 
 -- a new list goes last
 list_begun_of : (es made : Lists) (name : List ℕ) (line : ListLine) (lines : List ListLine)

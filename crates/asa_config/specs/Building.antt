@@ -52,3 +52,9 @@ abbrev pub Makes : {X : Type 0} → Result (Unit {0}) EditRefusal → X → X �
 Makes (Ok _) old new s = s ≡ Ok new
 Makes (Err NoMemory) old new s = new ≡ old
 Makes (Err (At line fault)) old new s = (s ≡ Err (At line fault)) × (new ≡ old)
+
+-- what a call that leaves the value and gives a further one answered; want of memory may come at any time
+abbrev pub Gives : {X : Type 0} → Result X EditRefusal → Result X EditRefusal → Type 0
+Gives (Ok x) s = s ≡ Ok x
+Gives (Err NoMemory) s = Unit {0}
+Gives (Err (At line fault)) s = s ≡ Err (At line fault)

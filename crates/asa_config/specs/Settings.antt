@@ -1,5 +1,5 @@
 -- A configuration as plain lists.
-use Rattle.std.specs.Prelude.{ℕ, Bool, false, ◌==◌, List, [], Option, Some, None}
+use Rattle.std.specs.Prelude.{ℕ, Bool, false, ◌==◌, List, [], slice_get, Option, Some, None, is_some}
 use Rattle.std.specs.List.{position}
 use Rattle.std.specs.Map.{lookup}
 use Rattle.std.specs.Str.{bytes_eq}
@@ -33,6 +33,14 @@ has_name name i = of_name i.name
 abbrev pub interface_of : Settings → List ℕ → Option ℕ
 interface_of c name = position (has_name name) c.ifaces
 
+-- the interface with this number is a named one
+abbrev pub is_named : Settings → ℕ → Bool
+is_named c ifc = of_iface (slice_get c.ifaces ifc)
+  where
+    of_iface : Option Iface → Bool
+    of_iface None = false
+    of_iface (Some i) = is_some i.name
+
 -- the lines of the list that has this name, among lists
 abbrev pub lines_among : List (List ℕ × List ListLine) → List ℕ → Option (List ListLine)
 lines_among lists name = lookup (λ n. bytes_eq name n) lists
@@ -41,6 +49,10 @@ lines_among lists name = lookup (λ n. bytes_eq name n) lists
 abbrev pub lines_of : Settings → List ℕ → Option (List ListLine)
 lines_of c name = lines_among c.lists name
 
+-- the name of the list that is bound to an interface, among bindings
+abbrev pub bound_among : List (ℕ × List ℕ) → ℕ → Option (List ℕ)
+bound_among bindings ifc = lookup (λ i. ifc == i) bindings
+
 -- the name of the list that is bound to the inbound side of an interface
 abbrev pub bound_to : Settings → ℕ → Option (List ℕ)
-bound_to c ifc = lookup (λ i. ifc == i) c.inbound
+bound_to c ifc = bound_among c.inbound ifc

@@ -71,7 +71,7 @@ pub struct ListLine {
 
 /// The lines of an access list in order, at most 65,536 of them.
 #[derive(Debug, Drop)]
-pub struct ListLines {
+pub(crate) struct ListLines {
     lines: Vec<ListLine>,
 }
 
@@ -88,7 +88,7 @@ impl Model for ListLines {
 
 impl ListLines {
     /// No line; takes no memory.
-    pub fn new(alloc: Global) -> ListLines
+    pub(crate) fn new(alloc: Global) -> ListLines
         ensures { result ≡ [] }
     {
         ListLines {
@@ -97,7 +97,7 @@ impl ListLines {
     }
 
     /// The lines in their order.
-    pub fn as_slice(&self) -> &[ListLine]
+    pub(crate) fn as_slice(&self) -> &[ListLine]
         ensures value { result.now ≡ self.now }
         ensures few { length self.now ≤ 65536 }
     {
@@ -105,14 +105,14 @@ impl ListLines {
     }
 
     /// How many lines there are.
-    pub fn len(&self) -> usize
+    pub(crate) fn len(&self) -> usize
         ensures { result ≡ length self.now }
     {
         self.lines.len()
     }
 
     /// Appends a line. On want of memory the lines stay as they were.
-    pub fn push(&mut self, line: ListLine) -> Result<(), AllocError>
+    pub(crate) fn push(&mut self, line: ListLine) -> Result<(), AllocError>
         requires { length self.old < 65536 }
         ensures ok { OnOk result (self.new ≡ self.old ++ line ∷ []) }
         ensures err { OnErr result (self.new ≡ self.old) }

@@ -51,7 +51,11 @@ fn free_name(config: &Config, word: &[u8]) -> Option<Name>
 
 /// Reads `nameif N` after its first word.
 #[tactic(auto, unfolding(crate::specs::Interfaces::nameif_line))]
-fn read_nameif(config: &Config, mut stated: Stated, words: &mut Words<'_>) -> Result<Stated, LineFault>
+fn read_nameif(
+    config: &Config,
+    mut stated: Stated,
+    words: &mut Words<'_>,
+) -> Result<Stated, LineFault>
     ensures { Reads result words.new (spec.nameif_line config.now stated words.old) }
 {
     let word = words.word()?;
@@ -90,7 +94,11 @@ fn read_address(mut stated: Stated, words: &mut Words<'_>) -> Result<Stated, Lin
 
 /// Reads an indented line of the block, by its first word, where no earlier line has that word.
 #[tactic(auto, unfolding(crate::specs::Interfaces::interface_line))]
-fn read_interface_line(config: &Config, stated: Stated, words: &mut Words<'_>) -> Result<Stated, LineFault>
+fn read_interface_line(
+    config: &Config,
+    stated: Stated,
+    words: &mut Words<'_>,
+) -> Result<Stated, LineFault>
     ensures { Reads result words.new (spec.interface_line config.now stated words.old) }
 {
     if words.next_is(b"nameif") && stated.name.is_none() {
@@ -218,7 +226,11 @@ fn interface_of_block(config: &Config, block: &Block) -> Result<Iface, EditRefus
 
 /// The interface that a block adds to the configuration.
 #[tactic(auto, unfolding(crate::specs::Interfaces::added_interface))]
-pub(crate) fn added_interface(config: &Config, block: &Block, startup: bool) -> Result<Iface, EditRefusal>
+pub(crate) fn added_interface(
+    config: &Config,
+    block: &Block,
+    startup: bool,
+) -> Result<Iface, EditRefusal>
     ensures value { result ≡ spec.added_interface config.now block.now startup }
     ensures room { OnOk result (length config.now.ifaces < 64) }
 {

@@ -8,8 +8,9 @@ mod holding;
 mod interfacing;
 mod listing;
 mod routing;
+#[cfg(test)]
+mod tests;
 
+pub use asa_text::cut_blocks;
 pub use configuring::{Config, InboundList};
-pub use holding::{
-    AddressRef, EditFault, EditRefusal, Iface, ListLine, ListLines, RouteLine,
-};
+pub use holding::{AddressRef, EditFault, EditRefusal, Iface, ListLine, RouteLine};

@@ -213,7 +213,11 @@ fn place_of_binding(bindings: &[(u8, Name)], ifc: u8, list: &Name) -> Option<usi
 }
 
 /// Binds a list to an interface, in the place of the earlier binding.
-pub(crate) fn put_binding(bindings: &mut Vec<(u8, Name)>, ifc: u8, list: Name) -> Result<(), AllocError>
+pub(crate) fn put_binding(
+    bindings: &mut Vec<(u8, Name)>,
+    ifc: u8,
+    list: Name,
+) -> Result<(), AllocError>
     ensures ok { OnOk result (bindings.new.items ≡ spec.with_binding bindings.old.items ifc list) }
     ensures err { OnErr result (bindings.new.items ≡ bindings.old.items) }
 {
