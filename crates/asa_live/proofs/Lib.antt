@@ -1,0 +1,5 @@
+pub mod Adding
+pub mod Prefixes
+pub mod Publishing
+pub mod Reaching
+pub mod Steps

@@ -1,0 +1,9 @@
+pub mod Copies
+pub mod Counts
+pub mod History
+pub mod Listing
+pub mod Meetings
+pub mod Phases
+pub mod Readers
+pub mod Writers
+pub use Rattle.logbook.specs.Pages
