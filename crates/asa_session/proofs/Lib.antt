@@ -1,5 +1,4 @@
 pub mod EndsLaws
-pub mod NumberLaws
 pub mod StartingLaws
 pub mod ScriptLaws
 pub mod SessionLaws

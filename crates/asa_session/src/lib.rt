@@ -12,3 +12,6 @@ mod starting;
 pub use reading::read_session;
 pub use scripting::{Command, PhaseEnd, PhaseText, Session, SessionError, SessionKind};
 pub use sharing::Shared;
+
+#[cfg(test)]
+mod tests;
