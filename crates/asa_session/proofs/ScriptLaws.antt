@@ -12,12 +12,11 @@ use Rattle.asa_text.specs.Readers.{Read, ◌>>=◌, word_at, next_is, keyword_at
 use Rattle.asa_base.specs.Naming.{is_name}
 use Rattle.asa_base.specs.declared.flowing.Packet.{Packet}
 use Rattle.asa_config.specs.declared.holding.Iface.{Iface}
-use Rattle.asa_config.specs.Settings.{Settings, has_name, interface_of}
+use Rattle.asa_config.specs.Settings.{Settings, has_name, interface_of, is_named}
 use Rattle.asa_config.specs.Routes.{interface_at}
 use Rattle.asa_session.specs.declared.scripting.SessionError.{SessionError}
 use Rattle.asa_session.specs.Judging.{and_then, unbuilt_script}
 use Rattle.asa_session.specs.Scripts.{packet_line, lane_line, built_at, has_new_ends, with_packet, command_line, script_line, script_packets}
-use Rattle.asa_session.specs.Readiness.{is_named}
 use Rattle.asa_session.proofs.StartingLaws.{and_then_ok, passed_test}
 
 -- what was read before the rest

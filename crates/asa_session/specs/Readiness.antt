@@ -1,20 +1,11 @@
 -- What holds of every accepted session, and what the machine stands on.
-use Rattle.std.specs.Prelude.{◌≡◌, ℕ, ◌≤◌, Bool, false, List, map, length, All, IsTrue, Option, Some, None, is_some, slice_get}
+use Rattle.std.specs.Prelude.{◌≡◌, ℕ, ◌≤◌, Bool, List, map, length, All, IsTrue}
 use Rattle.std.specs.List.{flat_map, range_with_len}
-use Rattle.asa_config.specs.declared.holding.Iface.{Iface}
-use Rattle.asa_config.specs.Settings.{Settings}
+use Rattle.asa_config.specs.Settings.{Settings, is_named}
 use Rattle.asa_config.specs.Steps.{config_of}
 use Rattle.asa_session.specs.declared.scripting.Command.{Command}
 use Rattle.asa_session.specs.declared.scripting.Command.TheVariants as command
 use Rattle.asa_session.specs.declared.scripting.Session.{Session}
-
--- the interface with this number is a named one
-abbrev pub is_named : Settings → ℕ → Bool
-is_named c ifc = of_iface (slice_get c.ifaces ifc)
-  where
-    of_iface : Option Iface → Bool
-    of_iface None = false
-    of_iface (Some i) = is_some i.name
 
 -- the packet of the command comes in on a named interface
 abbrev pub enters_named : Settings → Command → Bool
