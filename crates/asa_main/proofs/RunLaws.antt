@@ -1,11 +1,12 @@
 -- From what is known of the parts of a run to what is said of the whole.
-use Rattle.std.proofs.Common.{◌≡◌, ℕ, ◌<◌, List, [], length, drop, ◌+◌, Option, None, Some, Result, Ok, Err, true, refl, sym, subst, lt-ltb, nat_lt}
+use Rattle.std.proofs.Common.{◌≡◌, ℕ, List, [], length, Option, None, Some, Ok, Err, true, refl, subst, lt-ltb}
+use Rattle.std.specs.Option.{IfSome}
 use Rattle.asa_io.specs.Told.{TakesAll, Exceeds}
 use Rattle.asa_main.specs.declared.statuses.Reason.TheVariants as reason
 use Rattle.asa_main.specs.declared.statuses.Status.{Status}
 use Rattle.asa_main.specs.declared.statuses.Status.TheVariants as status
 use Rattle.asa_session.specs.declared.scripting.Session.{Session}
-use Rattle.asa_main.specs.Outcome.{Answers, Ends, Refusal, Says, Writes, judged, report_of, session_limit}
+use Rattle.asa_main.specs.Outcome.{Answers, Ends, Judges, Says, Writes, judged, report_of, session_limit}
 
 abbrev ends_of : Option (List ℕ) → Option (List ℕ) → ℕ → ℕ → Ends
 ends_of left given reads writes = record { left = left; given = given; read_faults = reads; write_faults = writes }
@@ -21,7 +22,7 @@ whole_run None left' given given' reads reads' writes writes' t (status.WriteFau
 whole_run None left' given given' reads reads' writes writes' t status.Memory taken answered = (refl, answered)
 whole_run (Some bytes) left' given given' reads reads' writes writes' t s taken answered =
     told left' given given' reads reads' writes writes' bytes s taken.1
-        (subst (λ (u : List ℕ). Answers u given given' writes writes' s) taken.0 answered)
+    (subst (λ (u : List ℕ). Answers u given given' writes writes' s) taken.0 answered)
   where
     told : (left' given given' : Option (List ℕ)) (reads reads' writes writes' : ℕ) (bytes : List ℕ) (s : Status) →
         left' ≡ Some [] → Answers bytes given given' writes writes' s →
@@ -34,15 +35,11 @@ whole_run (Some bytes) left' given given' reads reads' writes writes' t s taken 
     told left' given given' reads reads' writes writes' bytes status.Memory end answered = (refl, answered)
 
 -- an input of more bytes than the limit is refused as a whole
-pub too_long_run : (left left' given given' : Option (List ℕ)) (reads reads' writes writes' : ℕ) →
-    Exceeds session_limit left left' → given' ≡ given →
-    Says true (ends_of left given reads writes) (ends_of left' given' reads' writes') (status.Refused 0 reason.TooLong)
-too_long_run None left' given given' reads reads' writes writes' exceeds same = (refl, same, tt)
-too_long_run (Some bytes) left' given given' reads reads' writes writes' exceeds same = (refl, same, refused bytes exceeds.0)
-  where
-    refused : (bytes : List ℕ) → session_limit < length bytes → judged bytes ≡ Err (record { line = 0; reason = reason.TooLong })
-    unfolding judged
-    refused bytes more = rw (lt-ltb session_limit (length bytes) more) refl
+pub too_long_refused : (left left' : Option (List ℕ)) → Exceeds session_limit left left' →
+    IfSome left (λ t. judged t ≡ Err (record { line = 0; reason = reason.TooLong }))
+unfolding judged
+too_long_refused None left' exceeds = tt
+too_long_refused (Some bytes) left' exceeds = rw (lt-ltb session_limit (length bytes) exceeds.0) refl
 
 -- an accepted input, and how the writing of its report ended
 pub written_run : (given given' : Option (List ℕ)) (writes writes' : ℕ) (t : List ℕ) (session : Session) (s : Status) →
@@ -53,3 +50,13 @@ written_run given given' writes writes' t session status.Usage accepted wrote = 
 written_run given given' writes writes' t session status.ReadFault accepted wrote = absurd wrote
 written_run given given' writes writes' t session (status.WriteFault written) accepted wrote = (wrote.0, (session, accepted, (wrote.1, wrote.2)))
 written_run given given' writes writes' t session status.Memory accepted wrote = wrote
+
+-- an input that is refused, or for which there was no memory: nothing was given
+pub refused_run : (given : Option (List ℕ)) (writes : ℕ) (t : List ℕ) (s : Status) →
+    Judges (Err s) (judged t) → Answers t given given writes writes s
+refused_run given writes t status.Done refused = absurd refused
+refused_run given writes t (status.Refused line why) refused = (refl, refused)
+refused_run given writes t status.Usage refused = absurd refused
+refused_run given writes t status.ReadFault refused = absurd refused
+refused_run given writes t (status.WriteFault written) refused = absurd refused
+refused_run given writes t status.Memory refused = refl

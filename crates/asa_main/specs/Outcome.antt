@@ -91,5 +91,5 @@ Says form old new status.Usage = IsFalse form × (new.left ≡ old.left) × (new
 Says form old new status.ReadFault = IsTrue form × (new.given ≡ old.given) × Rose old.read_faults new.read_faults
 Says form old new (status.WriteFault written) =
     IsTrue form × Rose old.write_faults new.write_faults × IfSome old.left (λ t. (new.left ≡ Some [])
-        × IsReported t (λ report. (written ≤ length report) × Appends old.given new.given (take written report)))
+    × IsReported t (λ report. (written ≤ length report) × Appends old.given new.given (take written report)))
 Says form old new status.Memory = IsTrue form × (new.given ≡ old.given)

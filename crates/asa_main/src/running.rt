@@ -21,7 +21,7 @@ fn is_run(words: &[String]) -> bool
     ensures { result ≡ is_form (map string_bytes words.now) }
 {
     match words {
-        [word] => word.as_str().as_bytes() == b"run",
+        [word] => word.as_str().as_bytes() == b"run".as_slice(),
         _ => false,
     }
 }
@@ -69,7 +69,7 @@ fn write_run<K: Sink>(alloc: Global, session: &Session, output: &mut K) -> Statu
 }
 
 // Answers an input that was read whole.
-#[tactic(auto, using(crate::proofs::RunLaws::written_run))]
+#[tactic(auto, using(crate::proofs::RunLaws::written_run, crate::proofs::RunLaws::refused_run))]
 fn answer<K: Sink>(alloc: Global, bytes: &[u8], output: &mut K) -> Status
     requires { length bytes.now ≤ session_limit }
     ensures { Answers bytes.now (K.given output.old) (K.given output.new) (K.faults output.old) (K.faults output.new) result }
@@ -83,6 +83,7 @@ fn answer<K: Sink>(alloc: Global, bytes: &[u8], output: &mut K) -> Status
 /// Runs the program: reads its words, its input to the end and the session in it, runs the session, and writes the report.
 /// The words are those after the program's name. All of the session is run before the first byte is written. The gate is
 /// not passed yet, since nothing runs beside anything else.
+#[tactic(auto, using(crate::proofs::RunLaws::whole_run))]
 pub fn run<S: Source, K: Sink, G: Gate, R: Threads + Wait + Sync>(
     _rt: &R,
     alloc: Global,
@@ -91,12 +92,10 @@ pub fn run<S: Source, K: Sink, G: Gate, R: Threads + Wait + Sync>(
     output: &mut K,
     _gate: &G,
 ) -> Status
-    ensures says {
-        Says (is_form (map string_bytes words.now))
-            (record { left = S.left input.old; given = K.given output.old; read_faults = S.faults input.old; write_faults = K.faults output.old })
-            (record { left = S.left input.new; given = K.given output.new; read_faults = S.faults input.new; write_faults = K.faults output.new })
-            result
-    }
+    ensures says { Says (is_form (map string_bytes words.now))
+        (record { left = S.left input.old; given = K.given output.old; read_faults = S.faults input.old; write_faults = K.faults output.old })
+        (record { left = S.left input.new; given = K.given output.new; read_faults = S.faults input.new; write_faults = K.faults output.new })
+        result }
 {
     if !is_run(words) {
         return Status::Usage;

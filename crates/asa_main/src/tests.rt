@@ -47,12 +47,25 @@ struct Ran {
 
 // A run of the words over an input, whose read with this number fails (0: none), and an output of this room, whose
 // call with this number fails.
-fn ran(rt: &HostRuntime, words: &[&str], input: &[&[u8]], fails: (u32, u32), room: u32) -> Result<Ran, AllocError> {
+fn ran(
+    rt: &HostRuntime,
+    words: &[&str],
+    input: &[&[u8]],
+    fails: (u32, u32),
+    room: u32,
+) -> Result<Ran, AllocError> {
     let alloc = rt.alloc();
     let mut source = MemorySource::new(joined(alloc, input)?, Vec::from_slice(alloc, &[fails.0])?);
     let mut sink = MemorySink::new(alloc, Vec::from_slice(alloc, &[fails.1])?, room)?;
     let words = owned(alloc, words)?;
-    let status = run(rt, alloc, words.as_slice(), &mut source, &mut sink, &OpenGate);
+    let status = run(
+        rt,
+        alloc,
+        words.as_slice(),
+        &mut source,
+        &mut sink,
+        &OpenGate,
+    );
     let written = Vec::from_slice(alloc, sink.given())?;
     Ok(Ran { status, written })
 }
@@ -82,7 +95,13 @@ fn refused_at(status: &Status, wanted: u32) -> bool {
 
 #[test]
 fn three_packets_are_decided_by_list_and_level(rt: HostRuntime) -> Result<(), Fail> {
-    let r = ran(&rt, &["run"], &[BASE, WEB_LIST, THREE_PACKETS], (0, 0), 10_000)?;
+    let r = ran(
+        &rt,
+        &["run"],
+        &[BASE, WEB_LIST, THREE_PACKETS],
+        (0, 0),
+        10_000,
+    )?;
     assert!(rt; matches!(r.status, Status::Done));
     assert_eq!(rt; r.written.as_slice(), THREE_ANSWERS);
     Ok(())
@@ -91,7 +110,15 @@ fn three_packets_are_decided_by_list_and_level(rt: HostRuntime) -> Result<(), Fa
 #[test]
 fn empty_input_has_no_end_at_line_1_and_writes_nothing(rt: HostRuntime) -> Result<(), Fail> {
     let r = ran(&rt, &["run"], &[], (0, 0), 100)?;
-    assert!(rt; matches!(r.status, Status::Refused { line: 1, reason: Reason::Session(SessionKind::NoEnd) }));
+    assert!(rt;
+        matches!(
+            r.status,
+            Status::Refused {
+                line: 1,
+                reason: Reason::Session(SessionKind::NoEnd)
+            }
+        )
+    );
     assert!(rt; r.written.is_empty());
     Ok(())
 }
@@ -103,7 +130,15 @@ lane 1
 packet outside udp 198.51.100.9 50000 10.0.0.80 80
 ";
     let r = ran(&rt, &["run"], &[BASE, WEB_LIST, script], (0, 0), 100)?;
-    assert!(rt; matches!(r.status, Status::Refused { line: 14, reason: Reason::Session(SessionKind::NotBuilt) }));
+    assert!(rt;
+        matches!(
+            r.status,
+            Status::Refused {
+                line: 14,
+                reason: Reason::Session(SessionKind::NotBuilt)
+            }
+        )
+    );
     assert!(rt; r.written.is_empty());
     let mut errors = MemorySink::new(rt.alloc(), Vec::new(rt.alloc()), 100)?;
     assert!(rt; write_status(&r.status, &mut errors).is_ok());
@@ -113,15 +148,35 @@ packet outside udp 198.51.100.9 50000 10.0.0.80 80
 
 #[test]
 fn a_refused_startup_block_refuses_the_session(rt: HostRuntime) -> Result<(), Fail> {
-    let r = ran(&rt, &["run"], &[BASE, b"object network A\n host 10.0.0.9\n", THREE_PACKETS], (0, 0), 100)?;
-    assert!(rt; matches!(r.status, Status::Refused { line: 10, reason: Reason::Session(SessionKind::Startup(EditFault::NotBuilt)) }));
+    let r = ran(
+        &rt,
+        &["run"],
+        &[BASE, b"object network A\n host 10.0.0.9\n", THREE_PACKETS],
+        (0, 0),
+        100,
+    )?;
+    assert!(rt;
+        matches!(
+            r.status,
+            Status::Refused {
+                line: 10,
+                reason: Reason::Session(SessionKind::Startup(EditFault::NotBuilt))
+            }
+        )
+    );
     assert!(rt; r.written.is_empty());
     Ok(())
 }
 
 #[test]
 fn a_failing_sink_leaves_the_stated_part_of_the_report(rt: HostRuntime) -> Result<(), Fail> {
-    let r = ran(&rt, &["run"], &[BASE, WEB_LIST, THREE_PACKETS], (0, 1), 10_000)?;
+    let r = ran(
+        &rt,
+        &["run"],
+        &[BASE, WEB_LIST, THREE_PACKETS],
+        (0, 1),
+        10_000,
+    )?;
     assert!(rt; matches!(r.status, Status::WriteFault { written: 0 }));
     assert!(rt; r.written.is_empty());
     let r = ran(&rt, &["run"], &[BASE, WEB_LIST, THREE_PACKETS], (0, 0), 10)?;
@@ -132,7 +187,13 @@ fn a_failing_sink_leaves_the_stated_part_of_the_report(rt: HostRuntime) -> Resul
 
 #[test]
 fn a_failing_source_writes_nothing(rt: HostRuntime) -> Result<(), Fail> {
-    let r = ran(&rt, &["run"], &[BASE, WEB_LIST, THREE_PACKETS], (1, 0), 10_000)?;
+    let r = ran(
+        &rt,
+        &["run"],
+        &[BASE, WEB_LIST, THREE_PACKETS],
+        (1, 0),
+        10_000,
+    )?;
     assert!(rt; matches!(r.status, Status::ReadFault));
     assert!(rt; r.written.is_empty());
     Ok(())
