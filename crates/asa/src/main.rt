@@ -3,9 +3,8 @@
 
 use asa_io::{OpenGate, StdSink, StdSource};
 use asa_main::{Status, exit_code, run, write_status};
-use std::env;
-use std::io;
 use std::process::ExitCode;
+use std::{env, io};
 
 // The words after the program's name, where they can be had.
 fn words_of(rt: &HostRuntime) -> io::Result<Vec<String>> {
@@ -23,7 +22,14 @@ fn status_of(rt: &HostRuntime) -> Status {
     };
     let mut input = StdSource::new(rt);
     let mut output = StdSink::new(rt, false);
-    run(rt, rt.alloc(), words.as_slice(), &mut input, &mut output, &OpenGate)
+    run(
+        rt,
+        rt.alloc(),
+        words.as_slice(),
+        &mut input,
+        &mut output,
+        &OpenGate,
+    )
 }
 
 fn main(rt: HostRuntime) -> ExitCode {

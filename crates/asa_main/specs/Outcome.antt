@@ -1,5 +1,5 @@
 -- What a run of the program does, by the status that it ends with.
-use Rattle.std.specs.Prelude.{◌≡◌, ℕ, Bool, false, ◌≤◌, nat_lt, List, [], ◌∷◌, length, take, codes, map, Option, Some, IfSome, Result, Ok, Err, IsTrue, IsFalse, if◌then◌else◌}
+use Rattle.std.specs.Prelude.{◌≡◌, ℕ, Bool, false, ◌≤◌, nat_lt, List, [], ◌∷◌, length, take, codes, Option, Some, IfSome, Result, Ok, Err, IsTrue, IsFalse, if◌then◌else◌}
 use Rattle.std.specs.Str.{bytes_eq}
 use Rattle.std.specs.Io.KnownBytes.{Appends}
 use Rattle.asa_io.specs.Faults.{Rose}
