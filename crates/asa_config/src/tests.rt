@@ -1,16 +1,21 @@
 //! What lies outside the contracts: that the clauses mean what they should, at configurations from the rules.
 ghost use Rattle.std.specs.Prelude.{◌<◌, ◌^◌, length};
 
-use crate::{AddressRef, Config, EditFault, EditRefusal, ListLine, cut_blocks};
-use asa_base::Name;
-use asa_text::{Addr, Block};
+use crate::{AddressRef, Config, EditFault, EditRefusal, ListLine, RouteLine, cut_blocks};
+use asa_base::{Name, Prefix};
+use asa_text::Addr;
 use std::alloc::Global;
 use std::process::Abort;
 use std::test::Fail;
 
-const TWO_INTERFACES: &[u8] = b"interface GigabitEthernet0/0\n nameif outside\n security-level 0\n \
-    ip address 203.0.113.2 255.255.255.0\ninterface GigabitEthernet0/1\n nameif inside\n \
-    security-level 100\n ip address 10.0.0.1 255.255.255.0\n";
+const TWO_INTERFACES: &[u8] = b"interface GigabitEthernet0/0\n\
+    \x20nameif outside\n\
+    \x20security-level 0\n\
+    \x20ip address 203.0.113.2 255.255.255.0\n\
+    interface GigabitEthernet0/1\n\
+    \x20nameif inside\n\
+    \x20security-level 100\n\
+    \x20ip address 10.0.0.1 255.255.255.0\n";
 
 /// The configuration after the blocks of a startup text, from what is there.
 fn take(alloc: Global, config: &mut Config, text: &[u8]) -> Result<(), Fail>
@@ -66,8 +71,10 @@ fn name(text: &[u8]) -> Result<Name, Fail> {
 
 #[test]
 fn an_interface_has_what_its_lines_state(rt: HostRuntime) -> Result<(), Fail> {
-    let text =
-        b"interface Ethernet2\n ip address 192.0.2.77 255.255.255.128\n security-level 50\n nameif dmz\n";
+    let text = b"interface Ethernet2\n\
+            \x20ip address 192.0.2.77 255.255.255.128\n\
+            \x20security-level 50\n\
+            \x20nameif dmz\n";
     let config = configured(rt.alloc(), text)?;
     let number = config.interface_of(&name(b"dmz")?);
     assert_eq!(rt; number, Some(2));
@@ -82,8 +89,13 @@ fn an_interface_has_what_its_lines_state(rt: HostRuntime) -> Result<(), Fail> {
 
 #[test]
 fn a_level_that_is_not_stated_goes_by_the_name(rt: HostRuntime) -> Result<(), Fail> {
-    let text =
-        b"interface A\n nameif inside\ninterface B\n nameif Inside\ninterface C\n security-level 7\ninterface D\n";
+    let text = b"interface A\n\
+            \x20nameif inside\n\
+            interface B\n\
+            \x20nameif Inside\n\
+            interface C\n\
+            \x20security-level 7\n\
+            interface D\n";
     let mut config = Config::empty(rt.alloc());
     take(rt.alloc(), &mut config, text)?;
     let mut levels = [255u8; 4];
@@ -162,24 +174,29 @@ fn the_65th_interface_is_not_built(rt: HostRuntime) -> Result<(), Fail> {
 
 #[test]
 fn a_route_takes_the_place_of_its_equal(rt: HostRuntime) -> Result<(), Fail> {
-    let text =
-        b"route outside 0 0 203.0.113.1\nroute inside 10.1.0.0 255.255.0.0 10.0.0.9 255\nroute outside 0.0.0.0 0 203.0.113.1 20\nroute outside 0 0 203.0.113.7 1\n";
+    let text = b"route outside 0 0 203.0.113.1\n\
+            route inside 10.1.0.0 255.255.0.0 10.0.0.9 255\n\
+            route outside 0.0.0.0 0 203.0.113.1 20\n\
+            route outside 0 0 203.0.113.7 1\n";
     let config = configured(rt.alloc(), text)?;
-    let routes = config.routes();
-    assert_eq!(rt; routes.len(), 3);
-    assert_eq!(rt;
-        (routes[0].ifc, routes[0].distance, routes[0].prefix.len),
-        (0, 20, 0)
-    );
-    assert_eq!(rt;
-        (routes[1].ifc, routes[1].distance, routes[1].prefix.len),
-        (1, 255, 16)
-    );
-    assert_eq!(rt; routes[1].prefix.addr, Addr(0x0a01_0000));
-    assert_eq!(rt;
-        (routes[2].gateway, routes[2].distance),
-        (Addr(0xcb00_7107), 1)
-    );
+    let default = RouteLine {
+        ifc: 0,
+        prefix: Prefix::new(Addr(0), 0).ok_or("no network")?,
+        gateway: Addr(0xcb00_7101),
+        distance: 20,
+    };
+    let inner = RouteLine {
+        ifc: 1,
+        prefix: Prefix::new(Addr(0x0a01_0000), 16).ok_or("no network")?,
+        gateway: Addr(0x0a00_0009),
+        distance: 255,
+    };
+    let other = RouteLine {
+        gateway: Addr(0xcb00_7107),
+        distance: 1,
+        ..default
+    };
+    assert_eq!(rt; config.routes(), [default, inner, other].as_slice());
     Ok(())
 }
 
@@ -198,8 +215,12 @@ fn a_route_line_that_is_not_built_is_told(rt: HostRuntime) -> Result<(), Fail> {
 
 #[test]
 fn a_list_keeps_its_lines_in_order(rt: HostRuntime) -> Result<(), Fail> {
-    let text =
-        b"access-list OUT extended permit tcp any host 10.0.0.80 eq 80\naccess-list IN extended permit tcp host 10.0.0.5 any\naccess-list OUT extended permit tcp any any eq 65535\naccess-list OUT extended permit tcp any any eq 65535\naccess-group OUT in interface outside\naccess-group IN in interface inside\n";
+    let text = b"access-list OUT extended permit tcp any host 10.0.0.80 eq 80\n\
+            access-list IN extended permit tcp host 10.0.0.5 any\n\
+            access-list OUT extended permit tcp any any eq 65535\n\
+            access-list OUT extended permit tcp any any eq 65535\n\
+            access-group OUT in interface outside\n\
+            access-group IN in interface inside\n";
     let config = configured(rt.alloc(), text)?;
     let web = ListLine {
         source: AddressRef::Any,
@@ -256,8 +277,11 @@ fn a_list_line_that_is_not_built_is_told(rt: HostRuntime) -> Result<(), Fail> {
 
 #[test]
 fn a_binding_takes_the_place_of_the_earlier_one(rt: HostRuntime) -> Result<(), Fail> {
-    let text =
-        b"access-list A extended permit tcp any any\naccess-list B extended permit tcp any any eq 22\naccess-group A in interface outside\naccess-group A in interface inside\naccess-group B in interface outside\n";
+    let text = b"access-list A extended permit tcp any any\n\
+            access-list B extended permit tcp any any eq 22\n\
+            access-group A in interface outside\n\
+            access-group A in interface inside\n\
+            access-group B in interface outside\n";
     let config = configured(rt.alloc(), text)?;
     let outside = config.inbound_list(0).ok_or("no list")?;
     assert_eq!(rt; outside.name.bytes(), b"B".as_slice());
