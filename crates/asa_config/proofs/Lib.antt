@@ -1,0 +1,4 @@
+pub mod NumberLaws
+pub mod RouteLaws
+pub mod ListLaws
+pub mod SoundLaws

@@ -1,0 +1,10 @@
+//! The top of the engine: a run of the program over its words, its input and its output, and the line that tells how it ended.
+#![tactic(auto)]
+
+mod running;
+mod statuses;
+#[cfg(test)]
+mod tests;
+
+pub use running::run;
+pub use statuses::{Reason, Status, exit_code, write_status};

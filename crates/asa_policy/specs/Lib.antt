@@ -1,0 +1,3 @@
+pub mod Access
+pub mod Routing
+pub mod Deciding

@@ -1,0 +1,4 @@
+pub mod EndsLaws
+pub mod StartingLaws
+pub mod ScriptLaws
+pub mod SessionLaws

@@ -1,0 +1,72 @@
+-- What holds of each session that a text gives.
+use Rattle.std.proofs.Common.{◌≡◌, ℕ, suc, true, ◌+◌, ◌≤◌, List, [], ◌∷◌, length, map, All, Option, Some, None, Ok, refl, sym, ap, subst, arith}
+use Rattle.std.specs.List.{fold, range_with_len}
+use Rattle.std.proofs.lemmas.List.{append-nil}
+use Rattle.std.proofs.lemmas.List.Elements.{All-cons, All-head, All-tail}
+use Rattle.asa_text.specs.declared.lining.Line.{Line}
+use Rattle.asa_text.specs.declared.grouping.Block.{Block}
+use Rattle.asa_text.specs.Blocks.{blocks_of}
+use Rattle.asa_text.specs.Lines.{before_end, after_end}
+use Rattle.asa_base.specs.declared.flowing.Packet.{Packet}
+use Rattle.asa_config.specs.Settings.{Settings, nothing}
+use Rattle.asa_config.specs.Steps.{after_block, config_of}
+use Rattle.asa_session.specs.declared.scripting.Command.{Command}
+use Rattle.asa_session.specs.declared.scripting.Command.TheVariants as command
+use Rattle.asa_session.specs.declared.scripting.Session.{Session}
+use Rattle.asa_session.specs.Judging.{and_then}
+use Rattle.asa_session.specs.Starting.{startup_config}
+use Rattle.asa_session.specs.Scripts.{script_packets}
+use Rattle.asa_session.specs.Sessions.{commands_from, session_with, with_script, startup_blocks, session_of_lines}
+use Rattle.asa_session.specs.Readiness.{IsReady, enters_named, commands_of}
+use Rattle.asa_session.proofs.StartingLaws.{and_then_ok, startup_ok}
+use Rattle.asa_session.proofs.ScriptLaws.{AreCarried, script_carried}
+
+length-commands_from : (i : ℕ) (ps : List Packet) → length (commands_from i ps) ≡ length ps
+length-commands_from i [] = refl
+length-commands_from i (p ∷ ps) = ap suc (length-commands_from (i + 1) ps)
+
+indices : (i : ℕ) (ps : List Packet) → map (λ asked. asked.1) (commands_from i ps) ≡ range_with_len i (length (commands_from i ps))
+indices i [] = refl
+indices i (p ∷ ps) = ap (λ xs. i ∷ xs) (indices (i + 1) ps)
+
+-- what holds of each packet holds of each command
+each_command : (P : ℕ × ℕ × Command → Type 0) (i : ℕ) (ps : List Packet) → All (λ p. (k : ℕ) → P (1, k, command.Packet p)) ps → All P (commands_from i ps)
+each_command P i [] each = λ k d below. absurd (omega (arith, below))
+each_command P i (p ∷ ps) each =
+    All-cons P _ (commands_from (i + 1) ps) (All-head (λ q. (k : ℕ) → P (1, k, command.Packet q)) p ps each i)
+    (each_command P (i + 1) ps (All-tail (λ q. (k : ℕ) → P (1, k, command.Packet q)) p ps each))
+
+-- the commands of a session of one lane are its packets
+commands_of_session : (bs : List Block) (c : Settings) (ps : List Packet) → commands_of (session_with bs c ps) ≡ commands_from 1 ps
+commands_of_session bs c [] = refl
+commands_of_session bs c (p ∷ ps) = append-nil (commands_from 1 (p ∷ ps))
+
+ready_with : (bs : List Block) (c : Settings) (ps : List Packet) → fold after_block nothing bs ≡ c → length bs ≤ 1024 → AreCarried c ps → IsReady (session_with bs c ps)
+unfolding config_of
+ready_with bs c ps configured few carried =
+    let asked = commands_of_session bs c ps in
+    record {
+      configured = sym configured;
+      named = rw asked (each_command (λ a. enters_named c a.2 ≡ true) 1 ps (λ k d below h. carried.named k d below));
+      one_lane = rw asked (each_command (λ a. a.0 ≡ 1) 1 ps (λ k d below h. refl));
+      indices = rw asked (indices 1 ps);
+      few_commands = rw (asked, length-commands_from) carried.few;
+      few_blocks = few;
+    }
+
+with_script_ok : (count : ℕ) (bs : List Block) (o : Option (List Line)) (c : Settings) (s : Session) → with_script count bs o c ≡ Ok s
+    → (ps : List Packet) × AreCarried c ps × (session_with bs c ps ≡ s)
+with_script_ok count bs None c s e = absurd (cc)
+with_script_ok count bs (Some script) c s e =
+    let w = and_then_ok (script_packets c 0 [] script) (λ ps. Ok (session_with bs c ps)) s e in
+    let none : AreCarried c [] = record { few = omega arith; named = λ k d below. absurd (omega (arith, below)) } in
+    (w.0, script_carried c 0 [] script w.0 none w.1, (let same : session_with bs c w.0 ≡ s = cc in same))
+
+pub session_is_ready : (ls : List Line) (s : Session) → session_of_lines ls ≡ Ok s → IsReady s
+unfolding session_of_lines
+session_is_ready ls s e =
+    let b = and_then_ok (startup_blocks (blocks_of (before_end ls))) (λ bs. and_then (startup_config 0 nothing bs) (with_script (length ls) bs (after_end ls))) s e in
+    let c = and_then_ok (startup_config 0 nothing b.0) (with_script (length ls) b.0 (after_end ls)) s b.2 in
+    let w = with_script_ok (length ls) b.0 (after_end ls) c.0 s c.2 in
+    let started = startup_ok 0 nothing b.0 c.0 (omega arith) c.1 in
+    subst IsReady w.2 (ready_with b.0 c.0 w.0 started.0 (omega (arith, started.1)) w.1)

@@ -1,0 +1,5 @@
+pub mod BlockLaws
+pub mod LineLaws
+pub mod WordLaws
+pub mod NumberLaws
+pub mod Appending

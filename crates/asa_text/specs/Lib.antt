@@ -1,0 +1,8 @@
+pub mod Lines
+pub mod Blocks
+pub mod Words
+pub mod Numbers
+pub mod Readers
+pub mod Printed
+pub mod Building
+pub mod Runs

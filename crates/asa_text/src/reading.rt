@@ -1,0 +1,125 @@
+//! Readers of a line: each takes its words from a cursor and gives what they mean, or the fault and its column.
+ghost use Rattle.std.specs.Prelude.{◌≡◌, ◌≤◌, ◌==◌, IfOk};
+ghost use Rattle.std.specs.List.{list_any};
+ghost use Rattle.asa_text.specs.Readers.{Reads, word_at, keyword_at, number_at, address_at, mask_at, end_at};
+
+use crate::numbering::{Addr, parse_addr, parse_mask, parse_number};
+use crate::scanning::same_bytes;
+use crate::wording::{Word, Words};
+
+/// Why a line isn't read, with the column from 1 of the word that is the cause.
+#[derive(Clone, Copy, Debug, PartialEq, Eq)]
+pub enum LineFault {
+    /// The word has none of the forms of its place, or is missing, or is one too many.
+    Bad { column: u32 },
+    /// The word is one that the real device has and this project leaves out.
+    Unsupported { column: u32 },
+    /// The word is a name that isn't defined.
+    Unknown { column: u32 },
+    /// The word is a name that no interface has.
+    NoSuchInterface { column: u32 },
+    /// Memory ran out.
+    NoMemory,
+}
+
+impl<'a> Words<'a> {
+    /// The next word; a missing one is Bad at the line's end.
+    #[tactic(auto, unfolding(crate::specs::Readers::word_at))]
+    pub fn word(&mut self) -> Result<Word<'a>, LineFault>
+        ensures { Reads result self.new (word_at self.old) }
+    {
+        let end = self.end();
+        match self.next() {
+            Some(word) => Ok(word),
+            None => Err(LineFault::Bad { column: end }),
+        }
+    }
+}
+
+/// Whether the word has a `:`, as an IPv6 address has.
+fn has_colon(word: &[u8]) -> bool
+    ensures { result ≡ list_any (λ b. b == 58) word.now }
+{
+    word.iter().any(|b| *b == b':')
+}
+
+/// This word.
+#[tactic(auto, unfolding(crate::specs::Readers::keyword_at))]
+pub fn keyword(words: &mut Words<'_>, text: &[u8]) -> Result<(), LineFault>
+    ensures { Reads result words.new (keyword_at text.now words.old) }
+{
+    let word = words.word()?;
+    if same_bytes(word.bytes(), text) {
+        Ok(())
+    } else {
+        Err(LineFault::Bad {
+            column: word.column(),
+        })
+    }
+}
+
+/// A number from `least` to `greatest`.
+#[tactic(auto, unfolding(crate::specs::Readers::number_at))]
+pub fn number(words: &mut Words<'_>, least: u64, greatest: u64) -> Result<u64, LineFault>
+    ensures { Reads result words.new (number_at least greatest words.old) }
+{
+    let word = words.word()?;
+    match parse_number(word.bytes(), least, greatest) {
+        Ok(value) => Ok(value),
+        Err(_) => Err(LineFault::Bad {
+            column: word.column(),
+        }),
+    }
+}
+
+/// An address.
+#[tactic(auto, unfolding(crate::specs::Readers::address_at))]
+pub fn address(words: &mut Words<'_>) -> Result<Addr, LineFault>
+    ensures { Reads result words.new (address_at words.old) }
+{
+    let word = words.word()?;
+    if has_colon(word.bytes()) {
+        return Err(LineFault::Unsupported {
+            column: word.column(),
+        });
+    }
+    match parse_addr(word.bytes()) {
+        Ok(addr) => Ok(addr),
+        Err(_) => Err(LineFault::Bad {
+            column: word.column(),
+        }),
+    }
+}
+
+/// A mask, as its number of ones.
+#[tactic(auto, unfolding(crate::specs::Readers::mask_at))]
+pub fn mask(words: &mut Words<'_>) -> Result<u8, LineFault>
+    ensures value { Reads result words.new (mask_at words.old) }
+    ensures few { IfOk result (λ ones. ones ≤ 32) }
+{
+    let word = words.word()?;
+    if has_colon(word.bytes()) {
+        return Err(LineFault::Unsupported {
+            column: word.column(),
+        });
+    }
+    match parse_mask(word.bytes()) {
+        Ok(ones) => Ok(ones),
+        Err(_) => Err(LineFault::Bad {
+            column: word.column(),
+        }),
+    }
+}
+
+/// The end of the line.
+#[tactic(auto, unfolding(crate::specs::Readers::end_at))]
+pub fn end_of_line(words: &mut Words<'_>) -> Result<(), LineFault>
+    ensures { Reads result words.new (end_at words.old) }
+{
+    match words.peek() {
+        Some(word) => Err(LineFault::Bad {
+            column: word.column(),
+        }),
+        None => Ok(()),
+    }
+}
