@@ -28,7 +28,7 @@ pub record Refusal : Type 0 where
   pub line : ℕ
   pub reason : Reason
 
--- the session of an input, or why it is refused
+-- the session of an input, or why it is refused; no session is ever judged to lack memory
 unfoldable pub judged : List ℕ → Result Session Refusal
 judged t = if nat_lt session_limit (length t) then Err (record { line = 0; reason = reason.TooLong }) else of_session (session_of t)
   where

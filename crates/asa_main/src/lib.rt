@@ -1,6 +1,8 @@
 //! The top of the engine: a run of the program over its words, its input and its output, and the line that tells how it ended.
 #![tactic(auto)]
 
+#[cfg(test)]
+mod examples;
 mod running;
 mod statuses;
 #[cfg(test)]

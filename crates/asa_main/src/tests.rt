@@ -1,10 +1,13 @@
 //! Whole runs over bytes in memory. The expected reports are worked by hand.
+use crate::examples::{DMZ, DMZ_ANSWERS, ROUTING, ROUTING_ANSWERS};
 use crate::{Reason, Status, exit_code, run, write_status};
 use asa_config::EditFault;
 use asa_io::{MemorySink, MemorySource, OpenGate};
 use asa_session::SessionKind;
 use std::alloc::{AllocError, Global};
+use std::sync::Wait;
 use std::test::Fail;
+use std::thread::Threads;
 
 const BASE: &[u8] = b"interface GigabitEthernet0/0
  nameif outside
@@ -40,21 +43,21 @@ done 2
 
 // What a run does: how it ends, and what it writes.
 #[derive(Drop)]
-struct Ran {
+struct Outcome {
     status: Status,
     written: Vec<u8>,
 }
 
 // A run of the words over an input, whose read with this number fails (0: none), and an output of this room, whose
 // call with this number fails.
-fn ran(
-    rt: &HostRuntime,
+fn ran<R: Threads + Wait + Sync>(
+    rt: &R,
+    alloc: Global,
     words: &[&str],
     input: &[&[u8]],
     fails: (u32, u32),
     room: u32,
-) -> Result<Ran, AllocError> {
-    let alloc = rt.alloc();
+) -> Result<Outcome, AllocError> {
     let mut source = MemorySource::new(joined(alloc, input)?, Vec::from_slice(alloc, &[fails.0])?);
     let mut sink = MemorySink::new(alloc, Vec::from_slice(alloc, &[fails.1])?, room)?;
     let words = owned(alloc, words)?;
@@ -67,7 +70,7 @@ fn ran(
         &OpenGate,
     );
     let written = Vec::from_slice(alloc, sink.given())?;
-    Ok(Ran { status, written })
+    Ok(Outcome { status, written })
 }
 
 fn joined(alloc: Global, parts: &[&[u8]]) -> Result<Vec<u8>, AllocError> {
@@ -97,6 +100,7 @@ fn refused_at(status: &Status, wanted: u32) -> bool {
 fn three_packets_are_decided_by_list_and_level(rt: HostRuntime) -> Result<(), Fail> {
     let r = ran(
         &rt,
+        rt.alloc(),
         &["run"],
         &[BASE, WEB_LIST, THREE_PACKETS],
         (0, 0),
@@ -108,8 +112,26 @@ fn three_packets_are_decided_by_list_and_level(rt: HostRuntime) -> Result<(), Fa
 }
 
 #[test]
+fn a_dmz_is_reached_by_the_lists_of_its_neighbours(rt: HostRuntime) -> Result<(), Fail> {
+    let r = ran(&rt, rt.alloc(), &["run"], &[DMZ], (0, 0), 10_000)?;
+    assert!(rt; matches!(r.status, Status::Done));
+    assert_eq!(rt; r.written.as_slice(), DMZ_ANSWERS);
+    Ok(())
+}
+
+#[test]
+fn packets_leave_by_the_longest_prefix_then_the_least_distance(
+    rt: HostRuntime,
+) -> Result<(), Fail> {
+    let r = ran(&rt, rt.alloc(), &["run"], &[ROUTING], (0, 0), 10_000)?;
+    assert!(rt; matches!(r.status, Status::Done));
+    assert_eq!(rt; r.written.as_slice(), ROUTING_ANSWERS);
+    Ok(())
+}
+
+#[test]
 fn empty_input_has_no_end_at_line_1_and_writes_nothing(rt: HostRuntime) -> Result<(), Fail> {
-    let r = ran(&rt, &["run"], &[], (0, 0), 100)?;
+    let r = ran(&rt, rt.alloc(), &["run"], &[], (0, 0), 100)?;
     assert!(rt;
         matches!(
             r.status,
@@ -129,7 +151,14 @@ fn a_udp_packet_is_refused_at_its_line(rt: HostRuntime) -> Result<(), Fail> {
 lane 1
 packet outside udp 198.51.100.9 50000 10.0.0.80 80
 ";
-    let r = ran(&rt, &["run"], &[BASE, WEB_LIST, script], (0, 0), 100)?;
+    let r = ran(
+        &rt,
+        rt.alloc(),
+        &["run"],
+        &[BASE, WEB_LIST, script],
+        (0, 0),
+        100,
+    )?;
     assert!(rt;
         matches!(
             r.status,
@@ -150,6 +179,7 @@ packet outside udp 198.51.100.9 50000 10.0.0.80 80
 fn a_refused_startup_block_refuses_the_session(rt: HostRuntime) -> Result<(), Fail> {
     let r = ran(
         &rt,
+        rt.alloc(),
         &["run"],
         &[BASE, b"object network A\n host 10.0.0.9\n", THREE_PACKETS],
         (0, 0),
@@ -172,6 +202,7 @@ fn a_refused_startup_block_refuses_the_session(rt: HostRuntime) -> Result<(), Fa
 fn a_failing_sink_leaves_the_stated_part_of_the_report(rt: HostRuntime) -> Result<(), Fail> {
     let r = ran(
         &rt,
+        rt.alloc(),
         &["run"],
         &[BASE, WEB_LIST, THREE_PACKETS],
         (0, 1),
@@ -179,7 +210,14 @@ fn a_failing_sink_leaves_the_stated_part_of_the_report(rt: HostRuntime) -> Resul
     )?;
     assert!(rt; matches!(r.status, Status::WriteFault { written: 0 }));
     assert!(rt; r.written.is_empty());
-    let r = ran(&rt, &["run"], &[BASE, WEB_LIST, THREE_PACKETS], (0, 0), 10)?;
+    let r = ran(
+        &rt,
+        rt.alloc(),
+        &["run"],
+        &[BASE, WEB_LIST, THREE_PACKETS],
+        (0, 0),
+        10,
+    )?;
     assert!(rt; matches!(r.status, Status::WriteFault { written: 10 }));
     assert_eq!(rt; r.written.as_slice(), b"startup 5 ".as_slice());
     Ok(())
@@ -189,6 +227,7 @@ fn a_failing_sink_leaves_the_stated_part_of_the_report(rt: HostRuntime) -> Resul
 fn a_failing_source_writes_nothing(rt: HostRuntime) -> Result<(), Fail> {
     let r = ran(
         &rt,
+        rt.alloc(),
         &["run"],
         &[BASE, WEB_LIST, THREE_PACKETS],
         (1, 0),
@@ -203,7 +242,7 @@ fn a_failing_source_writes_nothing(rt: HostRuntime) -> Result<(), Fail> {
 fn other_words_are_the_usage_line(rt: HostRuntime) -> Result<(), Fail> {
     let lists: [&[&str]; 5] = [&[], &["Run"], &["run", "run"], &["run", ""], &["--help"]];
     for words in lists {
-        let r = ran(&rt, words, &[BASE, THREE_PACKETS], (0, 0), 100)?;
+        let r = ran(&rt, rt.alloc(), words, &[BASE, THREE_PACKETS], (0, 0), 100)?;
         assert!(rt; matches!(r.status, Status::Usage));
         assert_eq!(rt; exit_code(&r.status), 2);
     }
