@@ -10,7 +10,7 @@ ghost use Rattle.asa_text.specs.Runs.{runs_of};
 use crate::scanning::before_dot;
 
 /// An IPv4 address, its first octet the highest.
-#[derive(Clone, Copy, Debug, PartialEq, Eq, PartialOrd, Ord, Hash)]
+#[derive(Clone, Copy, Debug, Default, PartialEq, Eq, PartialOrd, Ord, Hash)]
 pub struct Addr(pub u32);
 
 /// Why a word isn't a value of the wanted form.
@@ -68,10 +68,12 @@ fn with_digit(value: u64, digit: u8) -> Option<u64>
 /// The decimal number of a word, from `least` to `greatest`. Leading zeros are allowed.
 pub fn parse_number(word: &[u8], least: u64, greatest: u64) -> Result<u64, WordFault>
     ensures value { result ≡ spec.number_of word.now least greatest }
+    ensures within { IfOk result (λ n. (least ≤ n) × (n ≤ greatest)) }
     ensures empty { IsErrOf result WordFault.Empty ↔ (length word.now ≡ 0) }
     ensures not_a_number { IsErrOf result WordFault.NotANumber ↔ IsTrue (not (list_all spec.is_digit word.now)) }
     ensures out_of_range { IsErrOf result WordFault.OutOfRange
         ↔ IsTrue (spec.is_number word.now && not (spec.is_within least greatest (digits_value 10 word.now))) }
+    ensures no_name { ¬ IsErrOf result WordFault.UnknownName }
 {
     if word.is_empty() {
         return Err(WordFault::Empty);
@@ -183,6 +185,7 @@ pub fn parse_addr(word: &[u8]) -> Result<Addr, WordFault>
         ↔ IsTrue (not (length word.now == 0) && not (spec.has_address_form word.now)) }
     ensures out_of_range { IsErrOf result WordFault.OutOfRange
         ↔ IsTrue (spec.has_address_form word.now && not (list_all spec.is_octet (spec.runs word.now))) }
+    ensures no_name { ¬ IsErrOf result WordFault.UnknownName }
 {
     if word.is_empty() {
         return Err(WordFault::Empty);
@@ -195,7 +198,8 @@ pub fn parse_addr(word: &[u8]) -> Result<Addr, WordFault>
 
 /// The address of four runs.
 fn address_of_runs(runs: &Runs<'_>) -> Result<Addr, WordFault>
-    ensures { result ≡ spec.address_of_runs (runs_of runs.now) }
+    ensures value { result ≡ spec.address_of_runs (runs_of runs.now) }
+    ensures no_name { ¬ IsErrOf result WordFault.UnknownName }
 {
     if !runs.are_numbers() {
         return Err(WordFault::NotANumber);
@@ -237,6 +241,7 @@ pub fn parse_mask(word: &[u8]) -> Result<u8, WordFault>
     ensures empty { IsErrOf result WordFault.Empty ↔ (length word.now ≡ 0) }
     ensures not_a_number { IsErrOf result WordFault.NotANumber
         ↔ IsTrue (not (length word.now == 0) && not (spec.has_address_form word.now)) }
+    ensures no_name { ¬ IsErrOf result WordFault.UnknownName }
 {
     let addr = parse_addr(word)?;
     match ones_of(addr.0) {

@@ -61,7 +61,8 @@ pub fn keyword(words: &mut Words<'_>, text: &[u8]) -> Result<(), LineFault>
 /// A number from `least` to `greatest`.
 #[tactic(auto, unfolding(crate::specs::Readers::number_at))]
 pub fn number(words: &mut Words<'_>, least: u64, greatest: u64) -> Result<u64, LineFault>
-    ensures { Reads result words.new (number_at least greatest words.old) }
+    ensures value { Reads result words.new (number_at least greatest words.old) }
+    ensures within { IfOk result (λ n. (least ≤ n) × (n ≤ greatest)) }
 {
     let word = words.word()?;
     match parse_number(word.bytes(), least, greatest) {

@@ -72,7 +72,7 @@ pub(crate) fn leading_blanks(bytes: &[u8]) -> usize
 }
 
 /// The bytes without the blanks at their end.
-pub(crate) fn trimmed(bytes: &[u8]) -> &[u8]
+pub fn trimmed(bytes: &[u8]) -> &[u8]
     ensures { result.now ≡ trimmed_bytes bytes.now }
 {
     let mut end = bytes.len();
