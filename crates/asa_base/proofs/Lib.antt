@@ -1,1 +1,7 @@
 mod NameLaws
+mod NetworkLaws
+mod PortLaws
+mod OverLaws
+mod PrefixLaws
+mod PrefixCount
+mod PrefixCover

@@ -1,3 +1,10 @@
+pub mod Boxes
 pub mod Counting
+pub mod Knowing
+pub mod Members
 pub mod Naming
 pub mod Networks
+pub mod Prefixes
+pub mod Ranges
+pub mod Reading
+pub mod Wanting

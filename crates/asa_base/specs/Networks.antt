@@ -1,5 +1,5 @@
 -- Networks: an address whose host bits are zero, and the number of its leading bits that a covered address shares.
-use Rattle.std.specs.Prelude.{ℕ, ◌-◌, ◌/◌, ◌%◌, ◌^◌, Bool, ◌&&◌, ◌==◌, nat_le, List, [], ◌∷◌, codes, Ok, Err, if◌then◌else◌}
+use Rattle.std.specs.Prelude.{ℕ, ◌-◌, ◌*◌, ◌/◌, ◌%◌, ◌^◌, Bool, ◌&&◌, ◌==◌, nat_le, List, [], ◌∷◌, codes, Ok, Err, if◌then◌else◌}
 use Rattle.asa_text.specs.declared.numbering.Addr.{Addr}
 use Rattle.asa_text.specs.declared.reading.LineFault.TheVariants.{Bad}
 use Rattle.asa_text.specs.Words.{Spelled, Left}
@@ -16,6 +16,10 @@ block_size len = 2 ^ (32 - len)
 -- at most 32 leading bits, and the bits after them are zero
 abbrev pub is_prefix : ℕ → ℕ → Bool
 is_prefix addr len = nat_le len 32 && (addr % block_size len == 0)
+
+-- the network of so many leading bits that has the address: its other bits are zero
+abbrev pub network_over : Addr → ℕ → Network
+network_over a len = record { addr = record { 0 = a.0 / block_size len * block_size len }; len = len }
 
 -- two addresses share their leading bits
 abbrev pub same_network : ℕ → ℕ → ℕ → Bool

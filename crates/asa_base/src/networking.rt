@@ -1,12 +1,12 @@
 //! Networks: addresses that share their leading bits.
-ghost use Rattle.std.specs.Prelude.{◌≡◌, ℕ, ◌^◌, ◌-◌, ◌<◌, ◌≤◌, ◌↔◌, IsTrue, IsSome, IfSome};
+ghost use Rattle.std.specs.Prelude.{◌≡◌, ℕ, ◌+◌, ◌^◌, ◌-◌, ◌<◌, ◌≤◌, ◌↔◌, IsTrue, IsSome, IfSome};
 ghost use Rattle.asa_base.specs.Networks as spec;
 
 use asa_text::Addr;
 use std::marker::Model;
 
 /// A network: an address, and how many of its leading bits a covered address shares. The other bits are 0.
-#[derive(Clone, Copy, Debug, PartialEq, Eq)]
+#[derive(Clone, Copy, Debug, Default, PartialEq, Eq, Hash)]
 pub struct Prefix {
     /// The lowest address of the network.
     pub addr: Addr,
@@ -46,6 +46,28 @@ impl Prefix {
             Some(Prefix { addr, len })
         } else {
             None
+        }
+    }
+
+    /// The highest address of the network.
+    #[tactic(auto, using(crate::proofs::NetworkLaws::network_fits))]
+    pub fn last(self) -> Addr
+        ensures { result.0 ≡ self.addr.0 + (spec.block_size self.len - 1) }
+    {
+        Addr(self.addr.0 + (block_size(self.len) - 1) as u32)
+    }
+
+    /// The network that has the address and in which so many leading bits are shared.
+    #[tactic(auto, using(crate::proofs::OverLaws::no_host_bits, crate::proofs::OverLaws::begins_before))]
+    pub fn over(a: Addr, len: u8) -> Prefix
+        requires { len ≤ 32 }
+        ensures { result ≡ spec.network_over a len }
+    {
+        let size = block_size(len);
+        let first = u64::from(a.0) / size * size;
+        Prefix {
+            addr: Addr(first as u32),
+            len,
         }
     }
 
