@@ -1,0 +1,4 @@
+pub mod GrowLaws
+pub mod LookLaws
+pub mod RankLaws
+pub mod SlotLaws
