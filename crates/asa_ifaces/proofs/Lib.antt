@@ -1,0 +1,3 @@
+pub mod RouteLaws
+pub mod SoundLaws
+pub mod TimeLaws
