@@ -1,0 +1,121 @@
+-- What a block makes of a name that is in the table.
+use Rattle.std.proofs.Common.{◌≡◌, ℕ, ◌+◌, ◌<◌, ◌≤◌, Bool, true, false, ◌&&◌, nat_le, if◌then◌else◌, List, [], ◌∷◌, length, Result, Ok, Err, refl, sym, ap, subst, ◌∙◌, arith}
+use Rattle.std.specs.List.{list_all}
+use Rattle.std.proofs.lemmas.Bool.{le-leb, leb-true}
+use Rattle.asa_text.specs.declared.grouping.Block.{Block}
+use Rattle.asa_members.specs.declared.blocking.BlockKind.{BlockKind}
+use Rattle.asa_members.specs.declared.stating.Item.{Item}
+use Rattle.asa_members.specs.declared.topping.Top.{Top}
+use Rattle.asa_objects.specs.declared.faults.ObjectFault.{ObjectFault}
+use Rattle.asa_objects.specs.declared.faults.ObjectFault.TheVariants as fault
+use Rattle.asa_objects.specs.Tables.{Entry, Table, with_entry, services_of_name}
+use Rattle.asa_objects.specs.Ranks.{IsSound, Ranks, Uses}
+use Rattle.asa_objects.specs.Changing.{Replaces}
+use Rattle.asa_objects.specs.Defining.{Defines, and_then, are_small, is_small, limited, lacks_value, completed, changed_by, top_text}
+use Rattle.asa_objects.specs.Drafting.{drafted_by, Drafteds}
+use Rattle.asa_objects.proofs.RankLaws.{kept-members, kept-services}
+
+every : (p : List ℕ → Bool) → ((q : List ℕ) → p q ≡ true) → (es : Table) → list_all (λ e. p e.0) es ≡ true
+every p all [] = refl
+every p all (e ∷ es) = ap (λ (b : Bool). b && list_all (λ x. p x.0) es) (all e.0) ∙ every p all es
+
+-- what is sound is within the limit
+pub sound-small : (t : Table) (ranks : Ranks) (uses : Uses) (stamp : ℕ) → IsSound t ranks uses stamp → are_small t ≡ true
+unfolding are_small
+sound-small t ranks uses stamp sound = every (is_small t) each t
+  where
+    each : (q : List ℕ) → is_small t q ≡ true
+    each q =
+        let m = subst (λ n. n ≤ 65536) (kept-members t ranks uses stamp sound q) (sound.small q).0 in
+        let s = subst (λ n. n ≤ 65536) (kept-services t ranks uses stamp sound q) (sound.small q).1 in
+        ap (λ (b : Bool). b && nat_le (length (services_of_name t q)) 65536) (le-leb _ _ m) ∙ le-leb _ _ s
+
+module _ (t : Table) (b : Block) (top : Top) (items : List Item) (drafted : drafted_by t b top ≡ Ok items) where
+  missing : ℕ
+  missing = length (top_text b) + 1
+
+  to-completed : changed_by t b top ≡ completed t top (length (top_text b) + 1) items
+  unfolding changed_by
+  to-completed = ap (λ r. and_then r (λ xs. completed t top (length (top_text b) + 1) xs)) drafted
+
+  -- a new object has no value
+  pub define-lacks : lacks_value top.block items ≡ true → changed_by t b top ≡ Err (fault.Bad 1 (length (top_text b) + 1))
+  define-lacks lacks = to-completed ∙ ap (λ (x : Bool). if x then Err (fault.Bad 1 (length (top_text b) + 1)) else limited (length t) (with_entry t top.name (record { block = top.block; items = items }))) lacks
+
+  to-limited : lacks_value top.block items ≡ false → changed_by t b top ≡ limited (length t) (with_entry t top.name (record { block = top.block; items = items }))
+  to-limited lacks = to-completed ∙ ap (λ (x : Bool). if x then Err (fault.Bad 1 (length (top_text b) + 1)) else limited (length t) (with_entry t top.name (record { block = top.block; items = items }))) lacks
+
+  many : (n : ℕ) → 16384 < n → nat_le n 16384 ≡ false
+  many n h = by (nat_le n 16384) (leb-true n 16384)
+    where
+      by : (x : Bool) → (x ≡ true → n ≤ 16384) → x ≡ false
+      by false f = refl
+      by true f = let le = f refl in absurd (omega arith)
+
+  -- there are too many names
+  pub define-many : lacks_value top.block items ≡ false → 16384 < length t → changed_by t b top ≡ Err fault.TooMany
+  define-many lacks h = to-limited lacks
+      ∙ ap (λ (x : Bool). if x && are_small (with_entry t top.name (record { block = top.block; items = items })) then Ok (with_entry t top.name (record { block = top.block; items = items })) else Err fault.TooMany) (many (length t) h)
+
+  few : length t ≤ 16384 → changed_by t b top ≡ limited (length t) (with_entry t top.name (record { block = top.block; items = items }))
+      → changed_by t b top ≡ (if are_small (with_entry t top.name (record { block = top.block; items = items })) then Ok (with_entry t top.name (record { block = top.block; items = items })) else Err fault.TooMany)
+  few h e = e ∙ ap (λ (x : Bool). if x && are_small (with_entry t top.name (record { block = top.block; items = items })) then Ok (with_entry t top.name (record { block = top.block; items = items })) else Err fault.TooMany) (le-leb (length t) 16384 h)
+
+  -- what the replacement of the value answers
+  pub define-replaced : (made : Entry) → made ≡ record { block = top.block; items = items } → lacks_value top.block items ≡ false → length t ≤ 16384
+      → (ranks : Ranks) (uses : Uses) (stamp : ℕ) (new : Table) (result : Result (Unit {0}) ObjectFault) → IsSound new ranks uses stamp → Replaces t new (with_entry t top.name made) result
+      → Defines result t new (changed_by t b top)
+  define-replaced made is lacks h ranks uses stamp new (Ok u) sound replaces =
+      let same : new ≡ with_entry t top.name (record { block = top.block; items = items }) = replaces ∙ ap (with_entry t top.name) is in
+      few h (to-limited lacks)
+      ∙ ap (λ (x : Bool). if x then Ok (with_entry t top.name (record { block = top.block; items = items })) else Err fault.TooMany) (ap are_small (sym same) ∙ sound-small new ranks uses stamp sound)
+      ∙ ap Ok (sym same)
+  define-replaced made is lacks h ranks uses stamp new (Err fault.TooMany) sound replaces = (
+    few h (to-limited lacks)
+        ∙ ap (λ (x : Bool). if x then Ok (with_entry t top.name (record { block = top.block; items = items })) else Err fault.TooMany) (ap (λ m. are_small (with_entry t top.name m)) (sym is) ∙ replaces.0),
+    replaces.1,
+  )
+  define-replaced made is lacks h ranks uses stamp new (Err fault.NoMemory) sound replaces = replaces
+  define-replaced made is lacks h ranks uses stamp new (Err fault.NameTaken) sound replaces = absurd replaces
+  define-replaced made is lacks h ranks uses stamp new (Err (fault.Unknown l c)) sound replaces = absurd replaces
+  define-replaced made is lacks h ranks uses stamp new (Err (fault.Bad l c)) sound replaces = absurd replaces
+  define-replaced made is lacks h ranks uses stamp new (Err (fault.Unsupported l c)) sound replaces = absurd replaces
+  define-replaced made is lacks h ranks uses stamp new (Err (fault.Cycle l)) sound replaces = absurd replaces
+  define-replaced made is lacks h ranks uses stamp new (Err (fault.NoSuchMember l)) sound replaces = absurd replaces
+
+-- a line is refused
+pub define-refused : (t : Table) (ranks : Ranks) (b : Block) (top : Top) (f : ObjectFault) → Drafteds t ranks b top (Err f) → Defines (Err f) t t (changed_by t b top)
+unfolding changed_by
+define-refused t ranks b top fault.NoMemory h = refl
+define-refused t ranks b top fault.TooMany h = (ap (λ r. and_then r (λ xs. completed t top (length (top_text b) + 1) xs)) h, refl)
+define-refused t ranks b top fault.NameTaken h = (ap (λ r. and_then r (λ xs. completed t top (length (top_text b) + 1) xs)) h, refl)
+define-refused t ranks b top (fault.Unknown l c) h = (ap (λ r. and_then r (λ xs. completed t top (length (top_text b) + 1) xs)) h, refl)
+define-refused t ranks b top (fault.Bad l c) h = (ap (λ r. and_then r (λ xs. completed t top (length (top_text b) + 1) xs)) h, refl)
+define-refused t ranks b top (fault.Unsupported l c) h = (ap (λ r. and_then r (λ xs. completed t top (length (top_text b) + 1) xs)) h, refl)
+define-refused t ranks b top (fault.Cycle l) h = (ap (λ r. and_then r (λ xs. completed t top (length (top_text b) + 1) xs)) h, refl)
+define-refused t ranks b top (fault.NoSuchMember l) h = (ap (λ r. and_then r (λ xs. completed t top (length (top_text b) + 1) xs)) h, refl)
+
+abbrev pub made_of : BlockKind → List Item → Entry
+made_of kind items = record { block = kind; items = items }
+
+-- a refusal of a table that was like another is a refusal of that
+pub refused-of : (t begun after : Table) (s : Result Table ObjectFault) (f : ObjectFault) → Defines (Err f) begun after s → Defines (Err f) t t s
+refused-of t begun after s fault.NoMemory h = refl
+refused-of t begun after s fault.TooMany h = (h.0, refl)
+refused-of t begun after s fault.NameTaken h = (h.0, refl)
+refused-of t begun after s (fault.Unknown l c) h = (h.0, refl)
+refused-of t begun after s (fault.Bad l c) h = (h.0, refl)
+refused-of t begun after s (fault.Unsupported l c) h = (h.0, refl)
+refused-of t begun after s (fault.Cycle l) h = (h.0, refl)
+refused-of t begun after s (fault.NoSuchMember l) h = (h.0, refl)
+
+-- and leaves the table
+pub refused-same : (begun after : Table) (s : Result Table ObjectFault) (f : ObjectFault) → Defines (Err f) begun after s → after ≡ begun
+refused-same begun after s fault.NoMemory h = h
+refused-same begun after s fault.TooMany h = h.1
+refused-same begun after s fault.NameTaken h = h.1
+refused-same begun after s (fault.Unknown l c) h = h.1
+refused-same begun after s (fault.Bad l c) h = h.1
+refused-same begun after s (fault.Unsupported l c) h = h.1
+refused-same begun after s (fault.Cycle l) h = h.1
+refused-same begun after s (fault.NoSuchMember l) h = h.1

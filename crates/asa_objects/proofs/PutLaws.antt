@@ -1,0 +1,120 @@
+-- Ranks that take the place of others, and values that come back.
+use Rattle.std.proofs.Common.{◌≡◌, ℕ, ◌+◌, ◌<◌, Bool, true, false, cond, ◌||◌, List, [], ◌∷◌, length, take, get_or, Option, Some, None, is_some, refl, sym, ap, ◌∙◌}
+use Rattle.std.specs.Map.{lookup}
+use Rattle.std.specs.BTreeMap.{BTreeMap, is_at, insert_entry, IsOrdered}
+use Rattle.std.specs.Map.{remove_entry}
+use Rattle.std.specs.Ordering.{nat_cmp, match_ordering, is_eq}
+use Rattle.std.specs.declared.cmp.Ordering.{Ordering}
+use Rattle.std.specs.declared.cmp.Ordering.TheVariants as cmp
+use Rattle.std.specs.Cmp.Lexicographic.{slice_cmp}
+use Rattle.std.proofs.lemmas.Cmp.{nat_list_cmp_total}
+use Rattle.std.proofs.lemmas.Map.Lookups.{exact_bytes, btree_map_from_get}
+use Rattle.asa_objects.specs.declared.ranking.Rank.{Rank}
+use Rattle.asa_objects.specs.Tables.{Entry, Table, entry_of, same_name, with_entry}
+use Rattle.asa_objects.specs.Ranks.{Ranks, rank_of, has_name}
+use Rattle.asa_objects.specs.Totalling.{newer}
+use Rattle.asa_objects.proofs.LabelLaws.{same-is, same-self}
+use Rattle.asa_objects.proofs.UseLaws.{same-sym, has-more}
+
+-- one more of the names has its new rank
+pub set-more-ranks : (ranks new now made : Ranks) (names : List (List ℕ)) (i : ℕ) (d : List ℕ) → i < length names → d ≡ get_or names i d
+    → ((q : List ℕ) → rank_of now q ≡ cond (has_name (take i names) q) (newer (rank_of new q) (rank_of ranks q)) (rank_of ranks q))
+    → ((q : List ℕ) → rank_of made q ≡ cond (same_name d q) (newer (rank_of new d) (rank_of now q)) (rank_of now q))
+    → (q : List ℕ) → rank_of made q ≡ cond (has_name (take (i + 1) names) q) (newer (rank_of new q) (rank_of ranks q)) (rank_of ranks q)
+set-more-ranks ranks new now made names i d lt is was put q =
+    by (same_name d q) refl (put q) ∙ ap (λ (b : Bool). cond b (newer (rank_of new q) (rank_of ranks q)) (rank_of ranks q)) (ap (λ b. has_name (take i names) q || b) (same-sym d q) ∙ sym (has-more names i d q lt is))
+  where
+    twice : (n r : Option Rank) (b : Bool) → newer n (cond b (newer n r) r) ≡ newer n r
+    twice None r true = refl
+    twice None r false = refl
+    twice (Some x) r true = refl
+    twice (Some x) r false = refl
+
+    or-true : (b : Bool) (n r : Option Rank) → newer n r ≡ cond (b || true) (newer n r) r
+    or-true true n r = refl
+    or-true false n r = refl
+
+    or-false : (b : Bool) (n r : Option Rank) → cond b (newer n r) r ≡ cond (b || false) (newer n r) r
+    or-false true n r = refl
+    or-false false n r = refl
+
+    by : (b : Bool) → same_name d q ≡ b → rank_of made q ≡ cond b (newer (rank_of new d) (rank_of now q)) (rank_of now q)
+        → rank_of made q ≡ cond (has_name (take i names) q || same_name d q) (newer (rank_of new q) (rank_of ranks q)) (rank_of ranks q)
+    by true e p =
+        p ∙ ap (λ k. newer (rank_of new k) (rank_of now q)) (same-is d q e) ∙ ap (newer (rank_of new q)) (was q)
+        ∙ twice (rank_of new q) (rank_of ranks q) (has_name (take i names) q)
+        ∙ or-true (has_name (take i names) q) (rank_of new q) (rank_of ranks q)
+        ∙ ap (λ b. cond (has_name (take i names) q || b) (newer (rank_of new q) (rank_of ranks q)) (rank_of ranks q)) (sym e)
+    by false e p =
+        p ∙ was q ∙ or-false (has_name (take i names) q) (rank_of new q) (rank_of ranks q)
+        ∙ ap (λ b. cond (has_name (take i names) q || b) (newer (rank_of new q) (rank_of ranks q)) (rank_of ranks q)) (sym e)
+
+-- the ranks are the new ones where there are such
+pub set-newer : (ranks new made : Ranks) (names : List (List ℕ)) → ((q : List ℕ) → is_some (rank_of new q) ≡ has_name names q)
+    → ((q : List ℕ) → rank_of made q ≡ cond (has_name names q) (newer (rank_of new q) (rank_of ranks q)) (rank_of ranks q))
+    → (q : List ℕ) → rank_of made q ≡ newer (rank_of new q) (rank_of ranks q)
+set-newer ranks new made names covers set q = set q ∙ by (rank_of new q) (covers q)
+  where
+    by : (o : Option Rank) → is_some o ≡ has_name names q → cond (has_name names q) (newer o (rank_of ranks q)) (rank_of ranks q) ≡ newer o (rank_of ranks q)
+    by None h = ap (λ (b : Bool). cond b (rank_of ranks q) (rank_of ranks q)) (sym h)
+    by (Some r) h = ap (λ (b : Bool). cond b (Some r) (rank_of ranks q)) (sym h)
+
+-- a value that comes back
+pub value-back : {V : Type 0} (m n p : BTreeMap (List ℕ) V) (name : List ℕ) (made old : V) → IsOrdered (slice_cmp nat_cmp) m → IsOrdered (slice_cmp nat_cmp) p
+    → lookup (is_at (slice_cmp nat_cmp name)) m.entries ≡ Some old
+    → ((q : List ℕ) → lookup (is_at (slice_cmp nat_cmp q)) n.entries ≡ cond (same_name name q) (Some made) (lookup (is_at (slice_cmp nat_cmp q)) m.entries))
+    → ((q : List ℕ) → lookup (is_at (slice_cmp nat_cmp q)) p.entries ≡ cond (same_name name q) (Some old) (lookup (is_at (slice_cmp nat_cmp q)) n.entries))
+    → p.entries ≡ m.entries
+value-back m n p name made old ordered ordered2 was put back =
+    btree_map_from_get nat_list_cmp_total p m ordered2 ordered each exact_bytes
+  where
+    each : (q : List ℕ) → lookup (is_at (slice_cmp nat_cmp q)) p.entries ≡ lookup (is_at (slice_cmp nat_cmp q)) m.entries
+    each q = by (same_name name q) refl (back q) (put q)
+      where
+        by : (b : Bool) → same_name name q ≡ b → lookup (is_at (slice_cmp nat_cmp q)) p.entries ≡ cond b (Some old) (lookup (is_at (slice_cmp nat_cmp q)) n.entries)
+            → lookup (is_at (slice_cmp nat_cmp q)) n.entries ≡ cond b (Some made) (lookup (is_at (slice_cmp nat_cmp q)) m.entries)
+            → lookup (is_at (slice_cmp nat_cmp q)) p.entries ≡ lookup (is_at (slice_cmp nat_cmp q)) m.entries
+        by true e b p = b ∙ sym was ∙ ap (λ k. lookup (is_at (slice_cmp nat_cmp k)) m.entries) (same-is name q e)
+        by false e b p = b ∙ p
+
+-- a name that goes again
+pub name-gone : {V : Type 0} (name : List ℕ) (v : V) (es : List (List ℕ × V)) → lookup (is_at (slice_cmp nat_cmp name)) es ≡ None
+    → remove_entry (is_at (slice_cmp nat_cmp name)) (insert_entry (slice_cmp nat_cmp) es name v) ≡ es
+name-gone name v [] absent = ap (λ (b : Bool). cond b [] ((name, v) ∷ [])) (same-self name)
+name-gone {V} name v (e ∷ es) absent = by (slice_cmp nat_cmp name e.0) refl absent (λ more. name-gone name v es more)
+  where
+    by : (r : Ordering) → slice_cmp nat_cmp name e.0 ≡ r → cond (is_eq r) (Some e.1) (lookup (is_at (slice_cmp nat_cmp name)) es) ≡ None
+        → (lookup (is_at (slice_cmp nat_cmp name)) es ≡ None → remove_entry (is_at (slice_cmp nat_cmp name)) (insert_entry (slice_cmp nat_cmp) es name v) ≡ es)
+        → remove_entry (is_at (slice_cmp nat_cmp name)) (match_ordering r ((name, v) ∷ e ∷ es) ((e.0, v) ∷ es) (e ∷ insert_entry (slice_cmp nat_cmp) es name v)) ≡ e ∷ es
+    by cmp.Less same none more = ap (λ (b : Bool). cond b (e ∷ es) ((name, v) ∷ remove_entry (is_at (slice_cmp nat_cmp name)) (e ∷ es))) (same-self name)
+    by cmp.Equal same none more = absurd (cc)
+    by cmp.Greater same none more =
+        ap (λ (r : Ordering). cond (is_eq r) (insert_entry (slice_cmp nat_cmp) es name v) (e ∷ remove_entry (is_at (slice_cmp nat_cmp name)) (insert_entry (slice_cmp nat_cmp) es name v))) same
+        ∙ ap (λ rest. e ∷ rest) (more none)
+
+-- a look-up after a value is put
+pub entry-put : (t : Table) (name : List ℕ) (made : Entry) (q : List ℕ) → entry_of (with_entry t name made) q ≡ cond (same_name name q) (Some made) (entry_of t q)
+entry-put [] name made q = ap (λ (b : Bool). cond b (Some made) None) (same-sym q name)
+entry-put (e ∷ es) name made q = by (slice_cmp nat_cmp name e.0) refl (entry-put es name made q)
+  where
+    by : (r : Ordering) → slice_cmp nat_cmp name e.0 ≡ r → entry_of (with_entry es name made) q ≡ cond (same_name name q) (Some made) (entry_of es q)
+        → entry_of (match_ordering r ((name, made) ∷ e ∷ es) ((e.0, made) ∷ es) (e ∷ with_entry es name made)) q ≡ cond (same_name name q) (Some made) (entry_of (e ∷ es) q)
+    by cmp.Less same more = ap (λ (b : Bool). cond b (Some made) (entry_of (e ∷ es) q)) (same-sym q name)
+    by cmp.Equal same more =
+        let eq : name ≡ e.0 = same-is name e.0 (ap is_eq same) in
+        here (same_name name q) (ap (λ k. same_name q k) (sym eq) ∙ same-sym q name)
+      where
+        here : (b : Bool) → same_name q e.0 ≡ b → cond (same_name q e.0) (Some made) (entry_of es q) ≡ cond b (Some made) (cond (same_name q e.0) (Some e.1) (entry_of es q))
+        here true h = ap (λ (c : Bool). cond c (Some made) (entry_of es q)) h
+        here false h = ap (λ (c : Bool). cond c (Some made) (entry_of es q)) h ∙ sym (ap (λ (c : Bool). cond c (Some e.1) (entry_of es q)) h)
+    by cmp.Greater same more = there (same_name q e.0) refl
+      where
+        there : (b : Bool) → same_name q e.0 ≡ b → cond (same_name q e.0) (Some e.1) (entry_of (with_entry es name made) q) ≡ cond (same_name name q) (Some made) (cond (same_name q e.0) (Some e.1) (entry_of es q))
+        there false h =
+            ap (λ (c : Bool). cond c (Some e.1) (entry_of (with_entry es name made) q)) h ∙ more
+            ∙ ap (λ (o : Option Entry). cond (same_name name q) (Some made) o) (sym (ap (λ (c : Bool). cond c (Some e.1) (entry_of es q)) h))
+        there true h =
+            let eq : q ≡ e.0 = same-is q e.0 h in
+            let no : same_name name q ≡ false = ap (same_name name) eq ∙ ap is_eq same in
+            ap (λ (c : Bool). cond c (Some e.1) (entry_of (with_entry es name made) q)) h
+            ∙ sym (ap (λ (c : Bool). cond c (Some made) (cond (same_name q e.0) (Some e.1) (entry_of es q))) no ∙ ap (λ (c : Bool). cond c (Some e.1) (entry_of es q)) h)

@@ -1,0 +1,148 @@
+-- A name's value is replaced, or put back.
+use Rattle.std.proofs.Common.{◌≡◌, ℕ, Bool, true, false, cond, ◌||◌, ◌&&◌, not, List, [], ◌∷◌, Option, Some, None, Err, refl, sym, ap, subst, ◌∙◌}
+use Rattle.std.specs.List.{AllZip, list_any}
+use Rattle.std.specs.BTreeSet.{BTreeSet}
+use Rattle.std.specs.Map.{lookup}
+use Rattle.std.specs.Option.{option_to_list}
+use Rattle.std.specs.BTreeMap.{is_at}
+use Rattle.std.specs.Ordering.{nat_cmp}
+use Rattle.std.specs.Cmp.Lexicographic.{slice_cmp}
+use Rattle.asa_members.specs.declared.stating.Item.{Item}
+use Rattle.asa_objects.specs.declared.totaling.Renewed.{Renewed}
+use Rattle.asa_objects.specs.declared.faults.ObjectFault.{ObjectFault}
+use Rattle.asa_objects.specs.declared.faults.ObjectFault.TheVariants as fault
+use Rattle.asa_objects.specs.Tables.{Entry, Table, entry_of, items_in, items_of, named, refers_to, same_name, with_entry}
+use Rattle.asa_objects.specs.Defining.{are_small}
+use Rattle.asa_objects.specs.Ranks.{IsSound, Ranks, Uses, rank_of, users_of, users_in, has_name, refs_in}
+use Rattle.asa_objects.specs.Totalling.{newer, IsRenewed, AreSmall}
+use Rattle.asa_objects.specs.Using.{AreUsed, AreUnused}
+use Rattle.asa_objects.specs.Changing.{SameUsers, RefersTo, Prepares, Replaces}
+use Rattle.asa_objects.proofs.LabelLaws.{same-is}
+use Rattle.asa_objects.proofs.ReachLaws.{any-append, test_of}
+use Rattle.asa_objects.proofs.ChangeLaws.{IsChange, change-sound}
+use Rattle.asa_objects.proofs.OverLaws.{over-false}
+
+-- the names that members refer to
+pub refs-any : (c : List ℕ) (xs : List Item) → list_any (refers_to c) xs ≡ has_name (refs_in xs) c
+refs-any c [] = refl
+refs-any c (x ∷ xs) = ap (λ b. b || list_any (refers_to c) xs) (one (named x)) ∙ ap (λ b. has_name (option_to_list (named x)) c || b) (refs-any c xs)
+    ∙ sym (any-append _ (option_to_list (named x)) (refs_in xs))
+  where
+    or-false : (b : Bool) → b ≡ (b || false)
+    or-false true = refl
+    or-false false = refl
+
+    one : (o : Option (List ℕ)) → test_of (same_name c) o ≡ has_name (option_to_list o) c
+    one None = refl
+    one (Some n) = or-false (same_name c n)
+
+-- a name refers to what its members refer to
+pub refers-former : (t : Table) (ranks : Ranks) (uses : Uses) (stamp : ℕ) (name : List ℕ) (former : Entry) → IsSound t ranks uses stamp → entry_of t name ≡ Some former
+    → RefersTo uses name (refs_in former.items)
+refers-former t ranks uses stamp name former sound is c = sound.used c name ∙ ap (λ o. list_any (refers_to c) (items_in o)) is ∙ refs-any c former.items
+
+-- other lists of the same users
+pub sound-users : (t : Table) (ranks : Ranks) (uses uses2 : Uses) (stamp : ℕ) → IsSound t ranks uses stamp → SameUsers uses uses2 → IsSound t ranks uses2 stamp
+sound-users t ranks uses uses2 stamp sound same = record {
+  ranked = sound.ranked;
+  there = sound.there;
+  falls = sound.falls;
+  early = sound.early;
+  unlike = sound.unlike;
+  sums = sound.sums;
+  small = sound.small;
+  used = λ c u. same c u ∙ sound.used c u;
+}
+
+bool-used : (f m : Bool) → ((f || m) && not (f && not m)) ≡ m
+bool-used true true = refl
+bool-used true false = refl
+bool-used false true = refl
+bool-used false false = refl
+
+bool-other : (o : Bool) → ((o || false) && true) ≡ o
+bool-other true = refl
+bool-other false = refl
+
+-- after the change each name is used by those that refer to it
+used-after : (t after : Table) (ranks : Ranks) (uses mid uses2 : Uses) (stamp : ℕ) (name : List ℕ) (former made : Entry) (kept : List (List ℕ)) → IsSound t ranks uses stamp
+    → entry_of t name ≡ Some former → ((q : List ℕ) → entry_of after q ≡ cond (same_name name q) (Some made) (entry_of t q))
+    → AreUsed uses mid name (refs_in made.items) → ((q : List ℕ) → has_name kept q ≡ has_name (refs_in made.items) q) → AreUnused mid uses2 name (refs_in former.items) kept
+    → (c u : List ℕ) → has_name (users_of uses2 c) u ≡ list_any (refers_to c) (items_of after u)
+used-after t after ranks uses mid uses2 stamp name former made kept sound is entry used set unused c u =
+    unused c u ∙ ap (λ b. b && not (same_name name u && (has_name (refs_in former.items) c && not (has_name kept c)))) (used c u) ∙ by (same_name name u) refl (entry u)
+  where
+    by : (b : Bool) → same_name name u ≡ b → entry_of after u ≡ cond b (Some made) (entry_of t u)
+        → ((has_name (users_of uses c) u || (same_name name u && has_name (refs_in made.items) c)) && not (same_name name u && (has_name (refs_in former.items) c && not (has_name kept c))))
+        ≡ list_any (refers_to c) (items_of after u)
+    by true e p =
+        let f : has_name (users_of uses c) u ≡ has_name (refs_in former.items) c = ap (has_name (users_of uses c)) (sym (same-is name u e)) ∙ refers-former t ranks uses stamp name former sound is c in
+        ap (λ (b : Bool). (has_name (users_of uses c) u || (b && has_name (refs_in made.items) c)) && not (b && (has_name (refs_in former.items) c && not (has_name kept c)))) e
+        ∙ ap (λ x. (x || has_name (refs_in made.items) c) && not (has_name (refs_in former.items) c && not (has_name kept c))) f
+        ∙ ap (λ x. (has_name (refs_in former.items) c || has_name (refs_in made.items) c) && not (has_name (refs_in former.items) c && not x)) (set c)
+        ∙ bool-used (has_name (refs_in former.items) c) (has_name (refs_in made.items) c)
+        ∙ sym (refs-any c made.items) ∙ ap (λ o. list_any (refers_to c) (items_in o)) (sym p)
+    by false e p =
+        ap (λ (b : Bool). (has_name (users_of uses c) u || (b && has_name (refs_in made.items) c)) && not (b && (has_name (refs_in former.items) c && not (has_name kept c)))) e
+        ∙ bool-other (has_name (users_of uses c) u) ∙ sound.used c u ∙ ap (λ o. list_any (refers_to c) (items_in o)) (sym p)
+
+-- what is kept after the change
+pub replace-sound : (t after : Table) (ranks ranks2 : Ranks) (uses mid uses2 : Uses) (stamp : ℕ) (name : List ℕ) (former made : Entry) (names kept : List (List ℕ)) (x : Renewed)
+    → IsChange t after ranks uses stamp name made names → entry_of t name ≡ Some former
+    → (IsRenewed after ranks stamp names x.ranks.entries x.label × AreSmall x.ranks.entries × AreUsed uses mid name (refs_in made.items))
+    → ((q : List ℕ) → has_name kept q ≡ has_name (refs_in made.items) q)
+    → ((q : List ℕ) → rank_of ranks2 q ≡ newer (rank_of x.ranks.entries q) (rank_of ranks q)) → AreUnused mid uses2 name (refs_in former.items) kept
+    → IsSound after ranks2 uses2 x.label
+replace-sound t after ranks ranks2 uses mid uses2 stamp name former made names kept x change is prepared set now unused =
+    change-sound t after ranks uses stamp name made names change x.ranks.entries ranks2 x.label prepared.0 prepared.1 now uses2
+    (used-after t after ranks uses mid uses2 stamp name former made kept change.sound is change.entry prepared.2 set unused)
+
+-- what is kept after a refusal
+pub replace-same : (t after : Table) (ranks : Ranks) (uses uses2 : Uses) (stamp : ℕ) (name : List ℕ) (names refs : List (List ℕ)) (f : ObjectFault) → IsSound t ranks uses stamp
+    → Prepares after ranks stamp names uses uses2 name refs (Err f) → IsSound t ranks uses2 stamp
+replace-same t after ranks uses uses2 stamp name names refs fault.TooMany sound p = sound-users t ranks uses uses2 stamp sound p.1
+replace-same t after ranks uses uses2 stamp name names refs fault.NoMemory sound p = sound-users t ranks uses uses2 stamp sound p
+replace-same t after ranks uses uses2 stamp name names refs fault.NameTaken sound p = absurd p
+replace-same t after ranks uses uses2 stamp name names refs (fault.Unknown l c) sound p = absurd p
+replace-same t after ranks uses uses2 stamp name names refs (fault.Bad l c) sound p = absurd p
+replace-same t after ranks uses uses2 stamp name names refs (fault.Unsupported l c) sound p = absurd p
+replace-same t after ranks uses uses2 stamp name names refs (fault.Cycle l) sound p = absurd p
+replace-same t after ranks uses uses2 stamp name names refs (fault.NoSuchMember l) sound p = absurd p
+
+-- the answer to a change that is refused
+pub replace-refused : (t after new : Table) (ranks : Ranks) (uses uses2 : Uses) (stamp : ℕ) (name : List ℕ) (made : Entry) (names refs : List (List ℕ)) (f : ObjectFault)
+    → IsChange t after ranks uses stamp name made names → after ≡ with_entry t name made → new ≡ t
+    → Prepares after ranks stamp names uses uses2 name refs (Err f) → Replaces t new (with_entry t name made) (Err f)
+replace-refused t after new ranks uses uses2 stamp name made names refs fault.TooMany change is back p =
+    (ap are_small (sym is) ∙ over-false t after ranks uses stamp name made names change p.0, back)
+replace-refused t after new ranks uses uses2 stamp name made names refs fault.NoMemory change is back p = back
+replace-refused t after new ranks uses uses2 stamp name made names refs fault.NameTaken change is back p = absurd p
+replace-refused t after new ranks uses uses2 stamp name made names refs (fault.Unknown l c) change is back p = absurd p
+replace-refused t after new ranks uses uses2 stamp name made names refs (fault.Bad l c) change is back p = absurd p
+replace-refused t after new ranks uses uses2 stamp name made names refs (fault.Unsupported l c) change is back p = absurd p
+replace-refused t after new ranks uses uses2 stamp name made names refs (fault.Cycle l) change is back p = absurd p
+replace-refused t after new ranks uses uses2 stamp name made names refs (fault.NoSuchMember l) change is back p = absurd p
+
+-- a copy of the users of names has the same users
+pub copied-users : (old new : Uses) → AllZip (λ (p q : List ℕ × BTreeSet (List ℕ)). (q.0 ≡ p.0) × AllZip (λ (a b : List ℕ). b ≡ a) p.1.keys q.1.keys) old new → SameUsers old new
+copied-users [] [] zipped q u = refl
+copied-users [] (y ∷ ys) zipped q u = absurd zipped
+copied-users (x ∷ xs) [] zipped q u = absurd zipped
+copied-users (x ∷ xs) (y ∷ ys) zipped q u =
+    ap (λ k. has_name (users_in (cond (same_name q k) (Some y.1) (lookup (is_at (slice_cmp nat_cmp q)) ys))) u) zipped.0.0 ∙ by (same_name q x.0) (copied-users xs ys zipped.1 q u)
+  where
+    equal : (as_ bs : List (List ℕ)) → AllZip (λ (a b : List ℕ). b ≡ a) as_ bs → bs ≡ as_
+    equal [] [] z = refl
+    equal [] (b ∷ bs) z = absurd z
+    equal (a ∷ as_) [] z = absurd z
+    equal (a ∷ as_) (b ∷ bs) z = ap (λ r. b ∷ r) (equal as_ bs z.1) ∙ ap (λ k. k ∷ as_) z.0
+
+    by : (b : Bool) → has_name (users_of ys q) u ≡ has_name (users_of xs q) u → has_name (users_in (cond b (Some y.1) (lookup (is_at (slice_cmp nat_cmp q)) ys))) u ≡ has_name (users_in (cond b (Some x.1) (lookup (is_at (slice_cmp nat_cmp q)) xs))) u
+    by true more = ap (λ ks. has_name ks u) (equal x.1.keys y.1.keys zipped.0.1)
+    by false more = more
+
+-- what is kept of a copy
+pub copied-sound : (t t2 : Table) (ranks ranks2 : Ranks) (uses uses2 : Uses) (stamp stamp2 : ℕ) → IsSound t ranks uses stamp → t2 ≡ t → ranks2 ≡ ranks → SameUsers uses uses2 → stamp2 ≡ stamp
+    → IsSound t2 ranks2 uses2 stamp2
+copied-sound t t2 ranks ranks2 uses uses2 stamp stamp2 sound table same users label =
+    subst (λ x. IsSound x ranks2 uses2 stamp2) (sym table) (subst (λ x. IsSound t x uses2 stamp2) (sym same) (subst (λ n. IsSound t ranks uses2 n) (sym label) (sound-users t ranks uses uses2 stamp sound users)))

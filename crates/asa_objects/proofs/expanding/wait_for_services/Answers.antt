@@ -1,0 +1,28 @@
+use Rattle.asa_members.specs.Items.{item_services}
+use Rattle.std.proofs.Common.{◌≡◌, ◌+◌, ◌≤◌, suc, ◌++◌, length, sym, subst, ap, ◌∙◌}
+use Rattle.asa_objects.specs.Tables.{items_of, services_of_name}
+use Rattle.asa_objects.specs.Ranks.{services, amount, amount_of, rank_of}
+use Rattle.asa_objects.specs.Stacks.{given_by, unwound_services, cost, visits}
+use Rattle.asa_objects.proofs.TotalLaws.{amount-rank}
+use Rattle.asa_objects.proofs.StackLaws.{services-given, no-services, wait-listed, wait-cost}
+use Rattle.asa_objects.proofs.expanding.wait_for_services.Goals as goal
+
+pub returns-then-totals_of-eq0-clause-listed : goal.returns-then-totals_of-eq0-clause-listed
+returns-then-totals_of-eq0-clause-listed c =
+    let zero-is : c.totals_of.result.services ≡ 0 = c.if-totals_of-eq0.true in
+    let none : amount_of services c.args.kept.now.ranks.entries c.args.name.now ≡ 0 =
+    amount-rank services (rank_of c.args.kept.now.ranks.entries c.args.name.now) ∙ ap (amount services) (sym c.totals_of.ensures) ∙ zero-is in
+    ap (λ m. m ++ unwound_services c.args.values.now.entries c.args.stack.now.items)
+    (sym (no-services c.args.values.now.entries c.args.kept.now.ranks.entries c.args.kept.now.uses.entries c.args.kept.now.stamp c.requires c.args.name.now none))
+
+pub returns-clause-listed : goal.returns-clause-listed
+returns-clause-listed c =
+    ap (unwound_services c.args.values.now.entries) c.in_ok-push.ensures.items
+    ∙ wait-listed c.args.values.now.entries c.args.kept.now.ranks.entries c.args.kept.now.uses.entries c.args.kept.now.stamp c.requires item_services (services_of_name c.args.values.now.entries) c.args.stack.now.items c.rest_of.result c.args.name.now
+    (services-given c.args.values.now.entries c.args.kept.now.ranks.entries c.args.kept.now.uses.entries c.args.kept.now.stamp c.requires c.args.name.now
+    ∙ ap (λ g. given_by (item_services g) (services_of_name c.args.values.now.entries) (items_of c.args.values.now.entries c.args.name.now)) (sym c.rest_of.ensures.group)) c.rest_of.ensures.items
+
+pub returns-clause-shorter : goal.returns-clause-shorter
+returns-clause-shorter c =
+    subst (λ rs. cost c.args.values.now.entries rs ≤ suc (length (visits c.args.values.now.entries c.args.name.now)) + cost c.args.values.now.entries c.args.stack.now.items) (sym c.in_ok-push.ensures.items)
+    (wait-cost c.args.values.now.entries c.args.kept.now.ranks.entries c.args.kept.now.uses.entries c.args.kept.now.stamp c.requires c.args.stack.now.items c.rest_of.result c.args.name.now c.rest_of.ensures.items)

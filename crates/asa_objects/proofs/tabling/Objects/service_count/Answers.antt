@@ -1,0 +1,11 @@
+use Rattle.std.proofs.Common.{length, sym, ap, ◌∙◌}
+use Rattle.asa_objects.specs.Tables.{Table, services_of_name}
+use Rattle.asa_objects.specs.Ranks.{services, amount, rank_of}
+use Rattle.asa_objects.proofs.RankLaws.{kept-services}
+use Rattle.asa_objects.proofs.TotalLaws.{amount-rank}
+use Rattle.asa_objects.proofs.tabling.Objects.service_count.Goals as goal
+
+pub returns : goal.returns
+returns c = ap (amount services) c.totals_of.ensures ∙ sym (amount-rank services (rank_of c.self.inside.kept.ranks.entries c.args.name.now))
+    ∙ kept-services c.self.inside.values.entries c.self.inside.kept.ranks.entries c.self.inside.kept.uses.entries c.self.inside.kept.stamp c.self.invariant c.args.name.now
+    ∙ ap (λ (t : Table). length (services_of_name t c.args.name.now)) c.self.view_is

@@ -1,0 +1,12 @@
+pub mod Spreads
+pub mod Tables
+pub mod Defining
+pub mod Ranks
+pub mod Climbing
+pub mod Totalling
+pub mod Using
+pub mod Changing
+pub mod Drafting
+pub mod Expanding
+pub mod Stacks
+pub mod Marks

@@ -1,0 +1,99 @@
+-- New totals and labels of the names that reach a name, one after another, each from those that are new already.
+use Rattle.std.specs.Prelude.{◌≡◌, ℕ, ◌<◌, ◌≤◌, ◌⊎◌, true, List, ◌∷◌, ◌++◌, Option, Some, None, Result, Ok, Err, is_some}
+use Rattle.std.specs.List.{AllByRecursion}
+use Rattle.asa_objects.specs.declared.ranking.Totals.{Totals}
+use Rattle.asa_objects.specs.declared.ranking.Rank.{Rank}
+use Rattle.asa_objects.specs.declared.totaling.Renewed.{Renewed}
+use Rattle.asa_objects.specs.declared.faults.ObjectFault.{ObjectFault}
+use Rattle.asa_objects.specs.declared.faults.ObjectFault.TheVariants as fault
+use Rattle.asa_objects.specs.Spreads.{total}
+use Rattle.asa_objects.specs.Tables.{Table, items_of, named}
+use Rattle.asa_objects.specs.Climbing.{Rises}
+use Rattle.asa_objects.specs.Ranks.{Part, members, services, amount, Ranks, rank_of, label_of, amount_in, amount_of, has_name, weigh, no_totals}
+
+-- the rank that is new, or else the old one
+abbrev pub newer : Option Rank → Option Rank → Option Rank
+newer None old = old
+newer (Some new) old = Some new
+
+-- the rank of a name where some are new
+abbrev pub rank_now : Ranks → Ranks → List ℕ → Option Rank
+rank_now new ranks name = newer (rank_of new name) (rank_of ranks name)
+
+abbrev pub amount_now : Part → Ranks → Ranks → List ℕ → ℕ
+amount_now k new ranks name = amount_in k (rank_now new ranks name)
+
+abbrev pub totals_in_rank : Option Rank → Totals
+totals_in_rank None = no_totals
+totals_in_rank (Some r) = r.totals
+
+abbrev pub totals_now : Ranks → Ranks → List ℕ → Totals
+totals_now new ranks name = totals_in_rank (rank_now new ranks name)
+
+-- the totals of names together
+abbrev pub ref_totals : Ranks → Ranks → List (List ℕ) → Totals
+ref_totals new ranks names = record {
+  members = total (λ q. (totals_now new ranks q).members) names;
+  prefixes = total (λ q. (totals_now new ranks q).prefixes) names;
+  services = total (λ q. (totals_now new ranks q).services) names;
+}
+
+-- the sum over a name's members
+abbrev pub summed : Part → Table → Ranks → Ranks → List ℕ → ℕ
+summed k t new ranks name = total (weigh k t (amount_now k new ranks) name) (items_of t name)
+
+-- these totals are the sums over a name's members
+abbrev pub AreSums : Table → Ranks → Ranks → List ℕ → Totals → Type 0
+AreSums t new ranks name totals = (k : Part) → amount k totals ≡ summed k t new ranks name
+
+-- a name has too many members
+abbrev pub IsOver : Table → Ranks → Ranks → List ℕ → Type 0
+IsOver t new ranks name = (65536 < summed members t new ranks name) ⊎ (65536 < summed services t new ranks name)
+
+-- a name among these that is referred to has a lesser label
+abbrev pub IsInner : List (List ℕ) → (List ℕ → ℕ) → ℕ → Option (List ℕ) → Type 0
+IsInner names label n None = Unit {0}
+IsInner names label n (Some name) = has_name names name ≡ true → label name < n
+
+-- names whose labels rise, and along which references lead from later to earlier ones
+pub record IsLaid (t : Table) (ranks : Ranks) (names : List (List ℕ)) : Type 0 where
+  pub rising : Rises (label_of ranks) names
+  pub inner : (q : List ℕ) → has_name names q ≡ true → AllByRecursion (λ i. IsInner names (label_of ranks) (label_of ranks q) (named i)) (items_of t q)
+
+-- the new ranks of the first of these names, with labels from the stamp on
+pub record IsRenewed (t : Table) (ranks : Ranks) (stamp : ℕ) (names : List (List ℕ)) (new : Ranks) (label : ℕ) : Type 0 where
+  pub covers : (q : List ℕ) → is_some (rank_of new q) ≡ has_name names q
+  pub later : stamp ≤ label
+  pub fresh : (q : List ℕ) → is_some (rank_of new q) ≡ true → (stamp ≤ label_of new q) × (label_of new q < label)
+  pub order : (p q : List ℕ) → is_some (rank_of new p) ≡ true → is_some (rank_of new q) ≡ true → label_of ranks p < label_of ranks q → label_of new p < label_of new q
+  pub unlike : (p q : List ℕ) → is_some (rank_of new p) ≡ true → is_some (rank_of new q) ≡ true → label_of new p ≡ label_of new q → p ≡ q
+  pub sums : (k : Part) (q : List ℕ) → is_some (rank_of new q) ≡ true → amount_of k new q ≡ summed k t new ranks q
+
+-- new totals are within the limit
+abbrev pub AreSmall : Ranks → Type 0
+AreSmall new = (q : List ℕ) → is_some (rank_of new q) ≡ true → (amount_of members new q ≤ 65536) × (amount_of services new q ≤ 65536)
+
+-- one of these names has too many members, where those before it are renewed
+pub record IsOverfull (t : Table) (ranks : Ranks) (stamp : ℕ) (names : List (List ℕ)) : Type 0 where
+  pub before : List (List ℕ)
+  pub name : List ℕ
+  pub after : List (List ℕ)
+  pub split : names ≡ before ++ name ∷ after
+  pub new : Ranks
+  pub label : ℕ
+  pub renewed : IsRenewed t ranks stamp before new label
+  pub over : IsOver t new ranks name
+
+-- what a sum over a name's members may answer
+abbrev pub Sums : Table → Ranks → Ranks → List ℕ → Result Totals ObjectFault → Type 0
+Sums t new ranks name (Ok totals) = AreSums t new ranks name totals × (totals.members ≤ 65536) × (totals.services ≤ 65536)
+Sums t new ranks name (Err fault.TooMany) = IsOver t new ranks name
+Sums t new ranks name (Err fault.NoMemory) = Unit {0}
+Sums t new ranks name (Err _) = ⊥
+
+-- what the renewal of all these names may answer
+abbrev pub Renews : Table → Ranks → ℕ → List (List ℕ) → Result Renewed ObjectFault → Type 0
+Renews t ranks stamp names (Ok x) = IsRenewed t ranks stamp names x.ranks.entries x.label × AreSmall x.ranks.entries
+Renews t ranks stamp names (Err fault.TooMany) = IsOverfull t ranks stamp names
+Renews t ranks stamp names (Err fault.NoMemory) = Unit {0}
+Renews t ranks stamp names (Err _) = ⊥

@@ -1,0 +1,24 @@
+//! The objects and groups of a configuration: the table of their names, what a block makes of it, and what a name stands
+//! for once every name in it is replaced by its members.
+#![tactic(auto)]
+
+mod changing;
+mod climbing;
+mod defining;
+mod drafting;
+mod expanding;
+mod faults;
+mod knowing;
+mod opening;
+mod ranking;
+mod stating;
+mod tabling;
+#[cfg(test)]
+mod tests;
+mod totaling;
+mod using;
+mod valuing;
+
+pub use expanding::ExpandFault;
+pub use faults::ObjectFault;
+pub use tabling::Objects;

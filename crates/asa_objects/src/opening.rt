@@ -1,0 +1,87 @@
+//! A name comes into the table, or goes.
+ghost use Rattle.std.specs.Prelude.{◌≡◌, ℕ, List, [], true, false, cond, Some, None, is_some, OnOk, OnErr};
+ghost use Rattle.std.specs.List.{list_any};
+ghost use Rattle.asa_objects.specs.Ranks as spec;
+ghost use Rattle.asa_objects.specs.Ranks.{IsSound, has_name, users_of};
+ghost use Rattle.asa_objects.specs.Tables.{entry_of, items_of, refers_to, same_name, with_entry, without_name};
+
+use crate::changing::Kept;
+use crate::ranking::{Rank, Totals};
+use crate::using::drop_uses;
+use crate::valuing::Stated;
+use asa_base::Name;
+use asa_members::BlockKind;
+use indexmap::IndexSet;
+use std::alloc::{AllocError, Global};
+use std::collections::{BTreeMap, BTreeSet};
+
+/// The rank of a name without members.
+fn empty_rank(label: u64) -> Rank
+    ensures { result ≡ record { label = label; totals = spec.no_totals } }
+{
+    Rank {
+        label,
+        totals: Totals::none(),
+    }
+}
+
+/// Adds a name without members. After want of memory all is as before; labels that come to their type's end count as such.
+pub(crate) fn open_name(
+    alloc: Global,
+    values: &mut BTreeMap<Name, Stated>,
+    kept: &mut Kept,
+    name: &Name,
+    block: BlockKind,
+) -> Result<(), AllocError>
+    requires sound { IsSound values.old.entries kept.old.ranks.entries kept.old.uses.entries kept.old.stamp }
+    requires absent { entry_of values.old.entries name.now ≡ None }
+    ensures sound { IsSound values.new.entries kept.new.ranks.entries kept.new.uses.entries kept.new.stamp }
+    ensures ok { OnOk result (values.new.entries ≡ with_entry values.old.entries name.now (record { block = block; items = [] })) }
+    ensures err { OnErr result (values.new.entries ≡ values.old.entries) }
+{
+    let Some(next) = kept.stamp.checked_add(1) else {
+        return Err(AllocError);
+    };
+    let empty = Stated::new(alloc, block, IndexSet::new(alloc))?;
+    values.insert(name.copy(), empty)?;
+    match kept.ranks.insert(name.copy(), empty_rank(kept.stamp)) {
+        Ok(_) => {
+            kept.stamp = next;
+            Ok(())
+        }
+        Err(_) => {
+            values.remove(name);
+            Err(AllocError)
+        }
+    }
+}
+
+/// Forgets the users of a name.
+fn forget_users(uses: &mut BTreeMap<Name, BTreeSet<Name>>, name: &Name)
+    ensures { (q u : List ℕ) → has_name (users_of uses.new.entries q) u ≡ cond (same_name name.now q) false (has_name (users_of uses.old.entries q) u) }
+{
+    uses.remove(name);
+}
+
+/// Takes out a name that no name refers to.
+pub(crate) fn close_name(
+    alloc: Global,
+    values: &mut BTreeMap<Name, Stated>,
+    kept: &mut Kept,
+    name: &Name,
+) -> bool
+    requires sound { IsSound values.old.entries kept.old.ranks.entries kept.old.uses.entries kept.old.stamp }
+    requires unused { (q : List ℕ) → list_any (refers_to name.now) (items_of values.old.entries q) ≡ false }
+    ensures found { result ≡ is_some (entry_of values.old.entries name.now) }
+    ensures value { values.new.entries ≡ without_name values.old.entries name.now }
+    ensures sound { IsSound values.new.entries kept.new.ranks.entries kept.new.uses.entries kept.new.stamp }
+{
+    let Some(former) = values.remove(name) else {
+        return false;
+    };
+    let none = BTreeSet::new(alloc);
+    drop_uses(&mut kept.uses, former.refs(), &none, name);
+    forget_users(&mut kept.uses, name);
+    kept.ranks.remove(name);
+    true
+}

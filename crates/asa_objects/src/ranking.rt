@@ -1,0 +1,88 @@
+//! What is kept of a name beside its members: its label, which is above those of the names that it refers to, and how many
+//! members it has once it is expanded.
+ghost use Rattle.std.specs.Prelude.{◌≡◌, ◌+◌, IfSome};
+ghost use Rattle.asa_objects.specs.Ranks as spec;
+ghost use Rattle.asa_objects.specs.Totalling.{totals_in_rank};
+
+use asa_base::Name;
+use asa_members::{GroupKind, Item};
+use std::collections::BTreeMap;
+
+/// How much a name stands for once it is expanded.
+#[derive(Clone, Copy, Debug, PartialEq, Eq)]
+pub(crate) struct Totals {
+    /// Members that are addresses.
+    pub(crate) members: u64,
+    /// The prefixes of these members.
+    pub(crate) prefixes: u64,
+    /// Services.
+    pub(crate) services: u64,
+}
+
+/// The label and the totals of a name.
+#[derive(Clone, Copy, Debug, PartialEq, Eq)]
+pub(crate) struct Rank {
+    pub(crate) label: u64,
+    pub(crate) totals: Totals,
+}
+
+impl Totals {
+    /// Nothing.
+    pub(crate) fn none() -> Totals
+        ensures { result ≡ spec.no_totals }
+    {
+        Totals {
+            members: 0,
+            prefixes: 0,
+            services: 0,
+        }
+    }
+
+    /// Both together, or None where a number would pass its type's end.
+    pub(crate) fn plus(self, other: Totals) -> Option<Totals>
+        ensures { IfSome result (λ t. t ≡ spec.both_totals self other) }
+    {
+        let members = self.members.checked_add(other.members)?;
+        let prefixes = self.prefixes.checked_add(other.prefixes)?;
+        let services = self.services.checked_add(other.services)?;
+        Some(Totals {
+            members,
+            prefixes,
+            services,
+        })
+    }
+}
+
+/// How much a member of a name states by itself, where the name's members have this form.
+pub(crate) fn own_totals(group: GroupKind, item: &Item) -> Totals
+    ensures { result ≡ spec.own_totals group item.now }
+{
+    let services = item.service_count(group) as u64;
+    match item {
+        Item::Network(member) => Totals {
+            members: 1,
+            prefixes: u64::from(member.prefix_count()),
+            services,
+        },
+        Item::Service(_)
+        | Item::Port(_)
+        | Item::Protocol(_)
+        | Item::IcmpType(_)
+        | Item::Object(_)
+        | Item::Group(_) => Totals {
+            members: 0,
+            prefixes: 0,
+            services,
+        },
+    }
+}
+
+/// The totals of a name; nothing where it has no rank.
+pub(crate) fn totals_of(ranks: &BTreeMap<Name, Rank>, name: &Name) -> Totals
+    ensures { result ≡ totals_in_rank (spec.rank_of ranks.now.entries name.now) }
+{
+    match ranks.get(name) {
+        Some(rank) => rank.totals,
+        None => Totals::none(),
+    }
+}

@@ -1,0 +1,174 @@
+//! The table of objects and groups.
+ghost use Rattle.std.specs.Prelude.{◌≡◌, ℕ, ◌+◌, ◌≤◌, List, [], true, false, is_some, None, Some, length, OnOk, OnErr, IfOk};
+ghost use Rattle.asa_objects.specs.Defining as spec;
+ghost use Rattle.asa_objects.specs.Expanding as expanding;
+ghost use Rattle.asa_base.specs.Prefixes.{member_prefix_count};
+ghost use Rattle.asa_objects.specs.Spreads.{total};
+ghost use Rattle.asa_objects.specs.Tables as table;
+
+use crate::changing::{Kept, copy_values};
+use crate::defining::define_top;
+use crate::expanding::{ExpandFault, expand_network, expand_service};
+use crate::faults::ObjectFault;
+use crate::knowing::{kind_in, port_proto_in, service_range_in};
+use crate::opening::close_name;
+use crate::ranking::totals_of;
+use crate::stating::top_of;
+use crate::using::first_user;
+use crate::valuing::Stated;
+use asa_base::{Kind, Member, Name, PortProto, Service};
+use asa_text::{Block, Items};
+use std::alloc::{AllocError, Global};
+use std::collections::BTreeMap;
+use std::marker::Model;
+
+/// The objects and groups of a configuration by name, with what is kept of each. Objects and groups share one space of
+/// names.
+#[derive(Debug, Drop)]
+pub struct Objects {
+    values: BTreeMap<Name, Stated>,
+    kept: Kept,
+    alloc: Global,
+}
+
+impl Model for Objects {
+    ghost use Rattle.asa_objects.specs.Tables.{Table};
+    ghost use Rattle.asa_objects.specs.Ranks.{IsSound};
+
+    ghost Value = { Table };
+
+    ghost view = { λ o. o.values.entries };
+
+    ghost invariant = { λ o. IsSound o.values.entries o.kept.ranks.entries o.kept.uses.entries o.kept.stamp };
+}
+
+impl Objects {
+    /// The table without names; takes no memory.
+    pub fn new(alloc: Global) -> Objects
+        ensures { result ≡ [] }
+    {
+        Objects {
+            values: BTreeMap::new(alloc),
+            kept: Kept {
+                ranks: BTreeMap::new(alloc),
+                uses: BTreeMap::new(alloc),
+                stamp: 1,
+            },
+            alloc,
+        }
+    }
+
+    /// A copy; the members of each name are shared.
+    pub fn copy(&self) -> Result<Objects, AllocError>
+        ensures { IfOk result (λ o. o ≡ self.now) }
+    {
+        let values = copy_values(&self.values)?;
+        let kept = self.kept.copy()?;
+        Ok(Objects {
+            values,
+            kept,
+            alloc: self.alloc,
+        })
+    }
+
+    /// How many names there are.
+    pub fn len(&self) -> usize
+        ensures { result ≡ length self.now }
+    {
+        self.values.len()
+    }
+
+    /// What a name is, or None exactly where neither an object nor a group has it.
+    pub fn kind_of(&self, name: &Name) -> Option<Kind>
+        ensures { result ≡ table.kind_in self.now name.now }
+    {
+        kind_in(&self.values, name)
+    }
+
+    /// The word of ports of a group of ports, or None exactly where the name isn't that of one.
+    pub fn port_proto(&self, name: &Name) -> Option<PortProto>
+        ensures { result ≡ table.port_proto_in self.now name.now }
+    {
+        port_proto_in(&self.values, name)
+    }
+
+    /// The service of a service object, or None exactly where the name isn't that of a service object of tcp or udp with
+    /// one service.
+    pub fn service_range(&self, name: &Name) -> Option<Service>
+        ensures { result ≡ table.service_range_in self.now name.now }
+    {
+        service_range_in(&self.values, name)
+    }
+
+    /// How many addresses, ranges and networks a name stands for, each counted where it stands.
+    pub fn member_count(&self, name: &Name) -> u64
+        ensures { result ≡ length (table.members_of self.now name.now) }
+    {
+        totals_of(&self.kept.ranks, name).members
+    }
+
+    /// How many prefixes the addresses of a name have, each member by itself.
+    pub fn prefix_total(&self, name: &Name) -> u64
+        ensures { result ≡ total member_prefix_count (table.members_of self.now name.now) }
+    {
+        totals_of(&self.kept.ranks, name).prefixes
+    }
+
+    /// How many services a name stands for.
+    pub fn service_count(&self, name: &Name) -> u64
+        ensures { result ≡ length (table.services_of_name self.now name.now) }
+    {
+        totals_of(&self.kept.ranks, name).services
+    }
+
+    /// The addresses that a network object or group stands for: its members in order, each name in them replaced in its
+    /// place by its own members. It takes memory for these alone; groups within groups are followed however deep.
+    pub fn expand_network(&self, name: &Name) -> Result<Items<Member>, ExpandFault>
+        ensures { expanding.Expands result (expanding.network_of self.now name.now) }
+    {
+        expand_network(self.alloc, &self.values, &self.kept, name)
+    }
+
+    /// The services that a service object or a group of services, ports, protocols or ICMP types stands for, in order. A
+    /// port group gives a service for each range, with the protocol of its word, none for `tcp-udp`.
+    pub fn expand_service(&self, name: &Name) -> Result<Items<Service>, ExpandFault>
+        ensures { expanding.Expands result (expanding.service_of self.now name.now) }
+    {
+        expand_service(self.alloc, &self.values, &self.kept, name)
+    }
+
+    /// The least group, by bytes, that names this name directly.
+    pub fn group_using(&self, name: &Name) -> Option<Name>
+        ensures { result ≡ table.user_of self.now name.now }
+    {
+        let _names = self.values.len();
+        first_user(&self.kept.uses, name)
+    }
+
+    /// Whether a group names this name directly.
+    pub fn is_used(&self, name: &Name) -> bool
+        ensures { result ≡ is_some (table.user_of self.now name.now) }
+    {
+        self.group_using(name).is_some()
+    }
+
+    /// Takes a block of an object or of a group, as a whole or not at all; lines `nat ..` and `no nat ..` of a network
+    /// object are passed over. The first line defines its name for the lines after it. After a refusal, and where memory
+    /// runs out, the table is as before.
+    #[tactic(auto, unfolding(crate::specs::Defining::defined))]
+    pub fn define(&mut self, block: &Block) -> Result<(), ObjectFault>
+        ensures { spec.Defines result self.old self.new (spec.defined self.old block.now) }
+    {
+        let top = top_of(block)?;
+        define_top(self.alloc, &mut self.values, &mut self.kept, block, &top)
+    }
+
+    /// Takes out a name that no group names, and answers whether it was there.
+    pub fn remove(&mut self, name: &Name) -> bool
+        requires { table.user_of self.old name.now ≡ None }
+        ensures found { result ≡ is_some (table.entry_of self.old name.now) }
+        ensures value { self.new ≡ table.without_name self.old name.now }
+    {
+        close_name(self.alloc, &mut self.values, &mut self.kept, name)
+    }
+}

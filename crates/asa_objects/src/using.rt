@@ -1,0 +1,116 @@
+//! Which names refer to each name.
+ghost use Rattle.std.specs.Prelude.{◌≡◌, ℕ, true, false, List, ◌&&◌, ◌||◌, not, OnOk, OnErr, IfOk, IfNone, IfSome};
+ghost use Rattle.std.specs.Ordering.{is_gt, nat_cmp};
+ghost use Rattle.std.specs.Cmp.Lexicographic.{slice_cmp};
+ghost use Rattle.asa_objects.specs.Ranks.{has_name, users_of};
+ghost use Rattle.asa_objects.specs.Tables.{same_name};
+ghost use Rattle.asa_objects.specs.Using.{AreUsed, AreUnused, IsPartUsed};
+
+use asa_base::Name;
+use std::alloc::{AllocError, Global};
+use std::collections::{BTreeMap, BTreeSet};
+
+/// The names of a list.
+pub(crate) fn set_of(alloc: Global, names: &[Name]) -> Result<BTreeSet<Name>, AllocError>
+    ensures { IfOk result (λ s. (q : List ℕ) → has_name s.keys q ≡ has_name names.now q) }
+{
+    let mut set = BTreeSet::new(alloc);
+    for name in names {
+        set.insert(name.copy())?;
+    }
+    Ok(set)
+}
+
+/// A name as the only one of a set.
+fn alone(alloc: Global, name: &Name) -> Result<BTreeSet<Name>, AllocError>
+    ensures { IfOk result (λ s. (q : List ℕ) → has_name s.keys q ≡ same_name name.now q) }
+{
+    let mut set = BTreeSet::new(alloc);
+    set.insert(name.copy())?;
+    Ok(set)
+}
+
+/// Notes that a name refers to another.
+fn add_use(
+    alloc: Global,
+    uses: &mut BTreeMap<Name, BTreeSet<Name>>,
+    name: &Name,
+    user: &Name,
+) -> Result<(), AllocError>
+    ensures ok { OnOk result ((q u : List ℕ) → has_name (users_of uses.new.entries q) u ≡ (has_name (users_of uses.old.entries q) u || (same_name user.now u && same_name name.now q))) }
+    ensures err { OnErr result ((q u : List ℕ) → has_name (users_of uses.new.entries q) u ≡ has_name (users_of uses.old.entries q) u) }
+{
+    if let Some(users) = uses.get_mut(name) {
+        users.insert(user.copy())?;
+        return Ok(());
+    }
+    let users = alone(alloc, user)?;
+    uses.insert(name.copy(), users)?;
+    Ok(())
+}
+
+/// Notes that a name no longer refers to another.
+fn drop_use(uses: &mut BTreeMap<Name, BTreeSet<Name>>, name: &Name, user: &Name)
+    ensures { (q u : List ℕ) → has_name (users_of uses.new.entries q) u ≡ (has_name (users_of uses.old.entries q) u && not (same_name user.now u && same_name name.now q)) }
+{
+    if let Some(users) = uses.get_mut(name) {
+        users.remove(user);
+    }
+}
+
+/// Notes that a name refers to others. On want of memory some of them may be noted.
+pub(crate) fn add_uses(
+    alloc: Global,
+    uses: &mut BTreeMap<Name, BTreeSet<Name>>,
+    names: &[Name],
+    user: &Name,
+) -> Result<(), AllocError>
+    ensures ok { OnOk result (AreUsed uses.old.entries uses.new.entries user.now names.now) }
+    ensures err { OnErr result (IsPartUsed uses.old.entries uses.new.entries user.now names.now) }
+{
+    for name in names {
+        add_use(alloc, uses, name, user)?;
+    }
+    Ok(())
+}
+
+/// Notes that a name no longer refers to another, unless that is kept.
+fn drop_unless_kept(
+    uses: &mut BTreeMap<Name, BTreeSet<Name>>,
+    name: &Name,
+    kept: &BTreeSet<Name>,
+    user: &Name,
+)
+    ensures gone { has_name kept.now.keys name.now ≡ false → (q u : List ℕ) → has_name (users_of uses.new.entries q) u ≡ (has_name (users_of uses.old.entries q) u && not (same_name user.now u && same_name name.now q)) }
+    ensures stays { has_name kept.now.keys name.now ≡ true → (q u : List ℕ) → has_name (users_of uses.new.entries q) u ≡ has_name (users_of uses.old.entries q) u }
+{
+    if kept.contains(name) {
+        return;
+    }
+    drop_use(uses, name, user);
+}
+
+/// Notes that a name no longer refers to others, but for those of them that are kept.
+pub(crate) fn drop_uses(
+    uses: &mut BTreeMap<Name, BTreeSet<Name>>,
+    names: &[Name],
+    kept: &BTreeSet<Name>,
+    user: &Name,
+)
+    ensures { AreUnused uses.old.entries uses.new.entries user.now names.now kept.now.keys }
+{
+    for name in names {
+        drop_unless_kept(uses, name, kept, user);
+    }
+}
+
+/// The least name, by bytes, that refers to a name.
+pub(crate) fn first_user(uses: &BTreeMap<Name, BTreeSet<Name>>, name: &Name) -> Option<Name>
+    ensures none { IfNone result ((u : List ℕ) → has_name (users_of uses.now.entries name.now) u ≡ false) }
+    ensures user { IfSome result (λ u. has_name (users_of uses.now.entries name.now) u ≡ true) }
+    ensures least { IfSome result (λ u. (v : List ℕ) → has_name (users_of uses.now.entries name.now) v ≡ true → is_gt (slice_cmp nat_cmp u v) ≡ false) }
+{
+    let users = uses.get(name)?;
+    let first = users.first()?;
+    Some(first.copy())
+}
