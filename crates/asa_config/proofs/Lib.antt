@@ -1,4 +1,10 @@
-pub mod NumberLaws
-pub mod RouteLaws
-pub mod ListLaws
-pub mod SoundLaws
+pub mod TableLaws
+pub mod ConfigLaws
+pub mod LineLaws
+pub mod KeptLaws
+pub mod NetLaws
+pub mod ReadLaws
+pub mod BindingLaws
+pub mod TakenLaws
+pub mod RecountLaws
+pub mod PutLaws

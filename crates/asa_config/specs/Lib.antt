@@ -1,7 +1,12 @@
 pub mod Settings
-pub mod Soundness
-pub mod Building
-pub mod Interfaces
-pub mod Routes
+pub mod Knowing
+pub mod Judging
+pub mod Classes
+pub mod Counted
+pub mod Grammar
+pub mod Fitting
+pub mod Net
+pub mod Groups
 pub mod Lists
 pub mod Steps
+pub mod Soundness

@@ -1,112 +1,91 @@
--- Access lists, `access-list N extended permit tcp SOURCE DEST [eq P]` with SOURCE and DEST `any` or `host A`, and
--- `access-group N in interface I`.
-use Rattle.std.specs.Prelude.{ℕ, Bool, ◌==◌, nat_lt, List, [], ◌∷◌, ◌++◌, length, codes, Option, Some, None, is_none, Result, Ok, Err, if◌then◌else◌}
-use Rattle.std.specs.Map.{set_value}
-use Rattle.std.specs.Str.{bytes_eq}
+-- Lines of access lists: where a new one goes, and which one is removed.
+use Rattle.std.specs.Prelude.{ℕ, Bool, false, ◌==◌, nat_lt, List, [], ◌∷◌, ◌++◌, length, Option, Some, None, is_some, codes, Ok, if◌then◌else◌}
 use Rattle.asa_text.specs.declared.grouping.Block.{Block}
-use Rattle.asa_text.specs.declared.reading.LineFault.TheVariants.{Bad, Unknown}
-use Rattle.asa_text.specs.Words.{Left}
-use Rattle.asa_text.specs.Readers.{Read, ◌>>=◌, word_at, next_word, after_one, next_is, keyword_at, number_at, address_at, end_at}
-use Rattle.asa_base.specs.Naming.{is_name, name_at}
-use Rattle.asa_config.specs.declared.holding.ListLine.{ListLine}
-use Rattle.asa_config.specs.declared.holding.AddressRef.{AddressRef}
-use Rattle.asa_config.specs.declared.holding.AddressRef.TheVariants.{Any, Host}
-use Rattle.asa_config.specs.declared.holding.EditRefusal.{EditRefusal}
-use Rattle.asa_config.specs.Settings.{Settings, lines_among, lines_of}
-use Rattle.asa_config.specs.Building.{unbuilt_at, and_then, alone}
-use Rattle.asa_config.specs.Routes.{interface_at}
+use Rattle.asa_ace.specs.declared.stating.AclLine.{AclLine}
+use Rattle.asa_acl.specs.Lists.{AccessLines, with_line, without_equal, place_of_equal}
+use Rattle.asa_config.specs.declared.stating.NewLine.{NewLine}
+use Rattle.asa_config.specs.declared.stating.OldLine.{OldLine}
+use Rattle.asa_config.specs.declared.refusing.EditFault.TheVariants.{NoSuchLine, InUse, TooMany}
+use Rattle.asa_config.specs.Settings.{Settings, has_name, list_among}
+use Rattle.asa_config.specs.Counted.{list_of}
+use Rattle.asa_config.specs.Groups.{is_bound}
+use Rattle.asa_config.specs.Fitting.{fitting}
+use Rattle.asa_config.specs.Grammar.{new_line, old_line}
+use Rattle.asa_config.specs.Judging.{Judged, ◌>>=◌, refused, top_text, top_read, alone}
 
--- `host A`
-unfoldable pub host_at : Left → Read AddressRef
-host_at left = do
-  (_, left) ← keyword_at (codes "host") left
-  (addr, left) ← address_at left
-  Ok (Host addr, left)
+-- a list takes the place of the one that has its name
+abbrev pub with_list : List AccessLines → AccessLines → List AccessLines
+with_list [] new = []
+with_list (l ∷ ls) new = if has_name new.name l then new ∷ ls else l ∷ with_list ls new
 
--- `any` or `host A`
-unfoldable pub address_ref_at : Left → Read AddressRef
-address_ref_at left = if next_is (codes "any") left then Ok (Any, after_one left) else host_at left
+-- the lists without the one that has this name
+abbrev pub without_list : List AccessLines → List ℕ → List AccessLines
+without_list [] name = []
+without_list (l ∷ ls) name = if has_name name l then ls else l ∷ without_list ls name
 
--- `eq P`
-unfoldable pub equal_port_at : Left → Read (Option ℕ)
-equal_port_at left = do
-  (_, left) ← keyword_at (codes "eq") left
-  (port, left) ← number_at 0 65535 left
-  Ok (Some port, left)
+-- a list may get a line, so that it has at most 65,536; or one more list may be begun, so that there are at most 1,024
+abbrev pub has_room : List AccessLines → Option AccessLines → Bool
+has_room lists (Some l) = nat_lt (length l.lines) 65536
+has_room lists None = nat_lt (length lists) 1024
 
--- `eq P`, or nothing where the line ends
-unfoldable pub port_at : Left → Read (Option ℕ)
-port_at left = if is_none (next_word left) then Ok (None, left) else equal_port_at left
+-- the lists after a line has gone into the one with its name, or has begun it; a new list goes last
+abbrev pub put_in : List AccessLines → NewLine → Option AccessLines → List AccessLines
+put_in lists new (Some l) = with_list lists (with_line l new.place new.item)
+put_in lists new None = lists ++ list_of new.list new.item ∷ []
 
--- `extended permit tcp SOURCE DEST [eq P]`, to the line's end
-unfoldable pub permit_line : Left → Read ListLine
-permit_line left = do
-  (_, left) ← keyword_at (codes "extended") left
-  (_, left) ← keyword_at (codes "permit") left
-  (_, left) ← keyword_at (codes "tcp") left
-  (source, left) ← address_ref_at left
-  (dest, left) ← address_ref_at left
-  (port, left) ← port_at left
-  (_, left) ← end_at left
-  Ok (record { source = source; dest = dest; port = port }, left)
+-- the configuration with other lists
+abbrev pub with_lists : Settings → List AccessLines → Settings
+with_lists c lists = record c { lists = lists }
 
--- a whole list line: the list's name and the line
-unfoldable pub list_line : Left → Read (List ℕ × ListLine)
-list_line left = do
-  (_, left) ← keyword_at (codes "access-list") left
-  (name, left) ← name_at left
-  (line, left) ← permit_line left
-  Ok ((name, line), left)
+-- the lists after a new line
+unfoldable pub lists_with : List AccessLines → NewLine → Judged (List AccessLines)
+lists_with lists new =
+    if has_room lists (list_among lists new.list) then Ok (put_in lists new (list_among lists new.list)) else refused 1 TooMany
 
--- the lines of a list after one more; the 65,537th isn't built
-unfoldable pub lines_step : List ListLine → ListLine → Result (List ListLine) EditRefusal
-lines_step lines line = if nat_lt (length lines) 65536 then Ok (lines ++ line ∷ []) else unbuilt_at 1
+-- the configuration after a new line
+unfoldable pub line_put : Settings → NewLine → Judged Settings
+line_put c new = lists_with c.lists new >>= λ lists. fitting (with_lists c lists)
 
--- the lists after a line has gone to the end of the list with these lines, or has begun a new list; the 1,025th isn't built
-abbrev pub lists_after : List (List ℕ × List ListLine) → List ℕ → ListLine → Option (List ListLine) → Result (List (List ℕ × List ListLine)) EditRefusal
-lists_after lists name line (Some lines) = and_then (lines_step lines line) (λ more. Ok (set_value (bytes_eq name) lists more))
-lists_after lists name line None = if nat_lt (length lists) 1024 then Ok (lists ++ (name, line ∷ []) ∷ []) else unbuilt_at 1
+-- `access-list N [line L] ..`
+unfoldable pub line_step : Settings → Block → Judged Settings
+line_step c b = do
+  new ← top_read b (new_line c (top_text b))
+  _ ← alone b
+  line_put c new
 
--- the lists after a line has gone to the list that has this name
-unfoldable pub lists_step : List (List ℕ × List ListLine) → List ℕ → ListLine → Result (List (List ℕ × List ListLine)) EditRefusal
-lists_step lists name line = lists_after lists name line (lines_among lists name)
+-- a list has a line like this one
+abbrev pub has_equal : AclLine → Option AccessLines → Bool
+has_equal item (Some l) = is_some (place_of_equal item l.lines)
+has_equal item None = false
 
--- the configuration after a list line
-unfoldable pub line_added : Settings → List ℕ → ListLine → Result Settings EditRefusal
-line_added c name line = and_then (lists_step c.lists name line) (λ lists. Ok (record c { lists = lists }))
+-- a line that is there; another is a fault of the line that removes it
+abbrev pub known_line : Settings → OldLine → Judged (Unit {0})
+known_line c old = if has_equal old.item (list_among c.lists old.list) then Ok tt else refused 1 NoSuchLine
 
-unfoldable pub list_step : Settings → Block → Result Settings EditRefusal
-list_step c b = and_then (alone b list_line) (λ named. line_added c named.0 named.1)
+-- the configuration after a list without lines has gone, unless it is bound somewhere
+abbrev pub list_gone : Settings → List ℕ → Judged Settings
+list_gone c name = if is_bound c name then refused 1 (InUse (codes "access-group")) else Ok (with_lists c (without_list c.lists name))
 
--- the name of a list that is defined
-unfoldable pub list_at : Settings → Left → Read (List ℕ)
-list_at c left = do
-  (w, left) ← word_at left
-  if is_name w.word then known w.word w.column left (lines_of c w.word) else Err (Bad w.column)
-  where
-    known : List ℕ → ℕ → Left → Option (List ListLine) → Read (List ℕ)
-    known name column left None = Err (Unknown column)
-    known name column left (Some _) = Ok (name, left)
+-- the lists after the first line that equals this one has left one of them
+abbrev pub without_line : List AccessLines → AclLine → Option AccessLines → List AccessLines
+without_line lists item (Some l) = with_list lists (without_equal l item)
+without_line lists item None = lists
 
--- a whole access-group line: the interface's number and the list's name
-unfoldable pub group_line : Settings → Left → Read (ℕ × List ℕ)
-group_line c left = do
-  (_, left) ← keyword_at (codes "access-group") left
-  (name, left) ← list_at c left
-  (_, left) ← keyword_at (codes "in") left
-  (_, left) ← keyword_at (codes "interface") left
-  (ifc, left) ← interface_at c left
-  (_, left) ← end_at left
-  Ok ((ifc, name), left)
+-- a list has one line
+abbrev pub has_one_line : Option AccessLines → Bool
+has_one_line (Some l) = length l.lines == 1
+has_one_line None = false
 
--- a binding takes the place of the earlier one of its interface
-abbrev pub with_binding : List (ℕ × List ℕ) → ℕ → List ℕ → List (ℕ × List ℕ)
-with_binding [] ifc name = (ifc, name) ∷ []
-with_binding (binding ∷ more) ifc name = if ifc == binding.0 then (ifc, name) ∷ more else binding ∷ with_binding more ifc name
+-- the configuration after a line has left its list; with its last line the list goes
+unfoldable pub line_gone : Settings → OldLine → Judged Settings
+line_gone c old =
+    if has_one_line (list_among c.lists old.list) then list_gone c old.list
+    else Ok (with_lists c (without_line c.lists old.item (list_among c.lists old.list)))
 
--- the configuration after a list is bound to the inbound side of an interface
-abbrev pub with_inbound : Settings → ℕ → List ℕ → Settings
-with_inbound c ifc name = record c { inbound = with_binding c.inbound ifc name }
-
-unfoldable pub group_step : Settings → Block → Result Settings EditRefusal
-group_step c b = and_then (alone b (group_line c)) (λ bound. Ok (with_inbound c bound.0 bound.1))
+-- `no access-list N ..`
+unfoldable pub no_line_step : Settings → Block → Judged Settings
+no_line_step c b = do
+  old ← top_read b (old_line c (top_text b))
+  _ ← known_line c old
+  _ ← alone b
+  line_gone c old

@@ -1,58 +1,56 @@
 -- A configuration as plain lists.
-use Rattle.std.specs.Prelude.{ℕ, Bool, false, ◌==◌, List, [], slice_get, Option, Some, None, is_some}
-use Rattle.std.specs.List.{position}
+use Rattle.std.specs.Prelude.{ℕ, Bool, ◌&&◌, ◌==◌, List, [], Option, Some, None, option_and_then}
+use Rattle.std.proofs.Math.Bool.{beq}
+use Rattle.std.specs.List.{find}
 use Rattle.std.specs.Map.{lookup}
 use Rattle.std.specs.Str.{bytes_eq}
-use Rattle.asa_config.specs.declared.holding.Iface.{Iface}
-use Rattle.asa_config.specs.declared.holding.RouteLine.{RouteLine}
-use Rattle.asa_config.specs.declared.holding.ListLine.{ListLine}
+use Rattle.asa_ifaces.specs.Interfaces.{Interfaces}
+use Rattle.asa_ifaces.specs.Interfaces as ifaces
+use Rattle.asa_acl.specs.Lists.{AccessLines}
 
 pub record Settings : Type 0 where
-  -- the interfaces in the order of their blocks; an interface's number is its place, from 0
-  pub ifaces : List Iface
-  -- the route lines in order
-  pub routes : List RouteLine
-  -- the access lists in order of first definition, each name with its lines in order
-  pub lists : List (List ℕ × List ListLine)
-  -- the access groups: the number of an interface with the name of the list that is bound to its inbound side
-  pub inbound : List (ℕ × List ℕ)
+  -- the interfaces, the routes, the times, and what is permitted between interfaces of one level
+  pub net : Interfaces
+  -- the access lists in order of first definition
+  pub lists : List AccessLines
+  -- the access groups of interfaces: the number of an interface and whether its inbound side, with the name of the list
+  pub bound : List ((ℕ × Bool) × List ℕ)
+  -- the name of the list that is bound to the inbound side of every interface
+  pub global : Option (List ℕ)
 
 -- nothing is configured
 abbrev pub nothing : Settings
-nothing = record { ifaces = []; routes = []; lists = []; inbound = [] }
+nothing = record { net = ifaces.nothing; lists = []; bound = []; global = None }
 
--- the interface has this name
-abbrev pub has_name : List ℕ → Iface → Bool
-has_name name i = of_name i.name
-  where
-    of_name : Option (List ℕ) → Bool
-    of_name None = false
-    of_name (Some given) = bytes_eq given name
+-- the list has this name
+abbrev pub has_name : List ℕ → AccessLines → Bool
+has_name name l = bytes_eq name l.name
 
--- the number of the interface that has this name
-abbrev pub interface_of : Settings → List ℕ → Option ℕ
-interface_of c name = position (has_name name) c.ifaces
+-- the list among these that has this name
+abbrev pub list_among : List AccessLines → List ℕ → Option AccessLines
+list_among lists name = find (has_name name) lists
 
--- the interface with this number is a named one
-abbrev pub is_named : Settings → ℕ → Bool
-is_named c ifc = of_iface (slice_get c.ifaces ifc)
-  where
-    of_iface : Option Iface → Bool
-    of_iface None = false
-    of_iface (Some i) = is_some i.name
+-- the list that has this name
+abbrev pub list_named : Settings → List ℕ → Option AccessLines
+list_named c name = list_among c.lists name
 
--- the lines of the list that has this name, among lists
-abbrev pub lines_among : List (List ℕ × List ListLine) → List ℕ → Option (List ListLine)
-lines_among lists name = lookup (λ n. bytes_eq name n) lists
+-- the two sides of interfaces are the same
+abbrev pub same_side : ℕ × Bool → ℕ × Bool → Bool
+same_side a b = (a.0 == b.0) && beq a.1 b.1
 
--- the lines of the list that has this name
-abbrev pub lines_of : Settings → List ℕ → Option (List ListLine)
-lines_of c name = lines_among c.lists name
+-- the name of the list that is bound to a side of an interface
+abbrev pub bound_to : List ((ℕ × Bool) × List ℕ) → ℕ × Bool → Option (List ℕ)
+bound_to bound side = lookup (same_side side) bound
 
--- the name of the list that is bound to an interface, among bindings
-abbrev pub bound_among : List (ℕ × List ℕ) → ℕ → Option (List ℕ)
-bound_among bindings ifc = lookup (λ i. ifc == i) bindings
+-- the list that a binding names, where there is a binding
+abbrev pub list_bound : Settings → Option (List ℕ) → Option AccessLines
+list_bound c None = None
+list_bound c (Some name) = list_named c name
 
--- the name of the list that is bound to the inbound side of an interface
-abbrev pub bound_to : Settings → ℕ → Option (List ℕ)
-bound_to c ifc = bound_among c.inbound ifc
+-- the list that is bound to the inbound or the outbound side of an interface
+abbrev pub list_on : Settings → ℕ → Bool → Option AccessLines
+list_on c ifc inbound = list_bound c (bound_to c.bound (ifc, inbound))
+
+-- the list that is bound to the inbound side of every interface
+abbrev pub global_list : Settings → Option AccessLines
+global_list c = list_bound c c.global

@@ -1,27 +1,53 @@
 -- What holds of every configuration.
-use Rattle.std.specs.Prelude.{◌≡◌, ℕ, ◌≤◌, Bool, true, nat_lt, List, length, is_some}
-use Rattle.std.specs.List.{list_all}
-use Rattle.asa_config.specs.declared.holding.RouteLine.{RouteLine}
-use Rattle.asa_config.specs.declared.holding.ListLine.{ListLine}
-use Rattle.asa_config.specs.Settings.{Settings, lines_among}
-
--- each route leaves by one of n interfaces
-abbrev pub all_leave : ℕ → List RouteLine → Bool
-all_leave n routes = list_all (λ r. nat_lt r.ifc n) routes
+use Rattle.std.specs.Prelude.{◌≡◌, ℕ, ◌+◌, ◌≤◌, Bool, true, false, nat_lt, nat_le, List, length, map, Option, Some, None, is_some}
+use Rattle.std.specs.List.{list_all, AllByRecursion}
+use Rattle.asa_boxes.specs.Meanings.{Meanings}
+use Rattle.asa_boxes.specs.Pairs.{list_pairs}
+use Rattle.asa_ifaces.specs.Interfaces.{Interfaces}
+use Rattle.asa_config.specs.Counted.{Counted, lists_in}
+use Rattle.asa_ace.specs.declared.stating.AclLine.{AclLine}
+use Rattle.asa_acl.specs.Lists.{AccessLines, without_equal}
+use Rattle.asa_config.specs.Settings.{Settings, list_among}
+use Rattle.asa_config.specs.Knowing.{pair_count, meanings_in, pairs_of_lists}
+use Rattle.asa_config.specs.declared.fitting.Counts.{Counts}
 
 -- each binding is that of one of n interfaces
-abbrev pub all_bound : ℕ → List (ℕ × List ℕ) → Bool
-all_bound n bindings = list_all (λ b. nat_lt b.0 n) bindings
+abbrev pub all_within : ℕ → List ((ℕ × Bool) × List ℕ) → Bool
+all_within n bound = list_all (λ b. nat_lt b.0.0 n) bound
 
 -- the list of each binding is defined
-abbrev pub all_defined : List (List ℕ × List ListLine) → List (ℕ × List ℕ) → Bool
-all_defined lists bindings = list_all (λ b. is_some (lines_among lists b.1)) bindings
+abbrev pub all_defined : List AccessLines → List ((ℕ × Bool) × List ℕ) → Bool
+all_defined lists bound = list_all (λ b. is_some (list_among lists b.1)) bound
 
--- the limits hold, and what a route or a binding names is there
+-- the global list, where one is bound, is defined
+abbrev pub is_global_defined : List AccessLines → Option (List ℕ) → Bool
+is_global_defined lists None = true
+is_global_defined lists (Some name) = is_some (list_among lists name)
+
+-- the limits hold, and what a binding names is there
 pub record IsSound (c : Settings) : Type 0 where
-  pub few_ifaces : length c.ifaces ≤ 64
-  pub few_routes : length c.routes ≤ 4096
   pub few_lists : length c.lists ≤ 1024
-  pub leave : all_leave (length c.ifaces) c.routes ≡ true
-  pub bound : all_bound (length c.ifaces) c.inbound ≡ true
-  pub defined : all_defined c.lists c.inbound ≡ true
+  pub few_pairs : pair_count c ≤ 262144
+  pub within : all_within (length c.net.ifaces) c.bound ≡ true
+  pub defined : all_defined c.lists c.bound ≡ true
+  pub global_defined : is_global_defined c.lists c.global ≡ true
+
+-- the pairs that are kept beside each list are its own
+abbrev pub AreCounted : Meanings → List Counted → Type 0
+AreCounted m ts = AllByRecursion (λ t. t.pairs ≡ list_pairs m t.list.lines) ts
+
+-- what holds of the parts of a configuration, whose interfaces and counted lists are told
+pub record IsKept (net : Interfaces) (ts : List Counted) (bound : List ((ℕ × Bool) × List ℕ)) (global : Option (List ℕ)) : Type 0 where
+  pub counted : AreCounted (meanings_in net.ifaces) ts
+  pub within : all_within (length net.ifaces) bound ≡ true
+  pub defined : all_defined (lists_in ts) bound ≡ true
+  pub global_defined : is_global_defined (lists_in ts) global ≡ true
+
+-- the first line of a list that equals this one has so many pairs, which are few
+abbrev pub TakesPairs : Meanings → AclLine → ℕ → Option AccessLines → Type 0
+TakesPairs m item n None = ⊥
+TakesPairs m item n (Some l) = (list_pairs m (without_equal l item).lines + n ≡ list_pairs m l.lines) × (n ≤ 262144)
+
+-- the pairs of lists, each and all together
+abbrev pub AreCounts : Meanings → List AccessLines → Counts → Type 0
+AreCounts m lists n = (n.each.items ≡ map (λ l. list_pairs m l.lines) lists) × (n.total ≡ pairs_of_lists m lists)

@@ -1,300 +1,226 @@
 //! A configuration and its readers.
-ghost use Rattle.std.specs.Prelude.{◌≡◌, ◌<◌, ◌≤◌, length, true, All, None, Some, IfNone, IfOk, IfSome, OnOk, OnErr, is_some, position, slice_get};
+ghost use Rattle.std.specs.Prelude.{◌≡◌, ℕ, ◌<◌, ◌≤◌, length, true, All, None, Some, IfNone, IfOk, IfSome, OnOk, OnErr, is_some, slice_get, sum_by};
 ghost use Rattle.std.specs.Option.{option_copied};
-ghost use Rattle.asa_config.specs.Building.{Gives, Makes};
-ghost use Rattle.asa_config.specs.Interfaces.{interface_step, with_interface};
-ghost use Rattle.asa_config.specs.Lists.{group_step, line_added, list_step, with_inbound};
-ghost use Rattle.asa_config.specs.Routes.{route_added, route_step};
+ghost use Rattle.asa_boxes.specs.Pairs as pairs;
+ghost use Rattle.asa_config.specs.Knowing as knowing;
 ghost use Rattle.asa_config.specs.Settings as spec;
-ghost use Rattle.asa_config.specs.Settings.{bound_to, interface_of, is_named, lines_of, nothing};
-ghost use Rattle.asa_config.specs.Steps.{step};
 
-use crate::building::{top_words, unbuilt};
-use crate::holding::{EditRefusal, Iface, ListLine, ListLines, RouteLine};
-use crate::interfacing::added_interface;
-use crate::listing::{group_of_block, line_of_block, put_binding, put_line};
-use crate::routing::{put_route, route_of_block};
-use asa_base::Name;
-use asa_text::Block;
-use indexmap::IndexMap;
+use crate::scoping::Scope;
+use crate::tabling::ListTable;
+use asa_acl::Acl;
+use asa_base::{Addr, Kind, LineBox, Name, Names, PortProto, Service};
+use asa_boxes::boxes;
+use asa_ifaces::Ifaces;
+use asa_text::Items;
 use std::alloc::{AllocError, Global};
 use std::marker::Model;
 
-/// A configuration: its interfaces, routes, access lists and access groups.
+/// A configuration: its interfaces, routes and times, its access lists and access groups.
 #[derive(Debug, Drop)]
 pub struct Config {
-    ifaces: Vec<Iface>,
-    routes: Vec<RouteLine>,
-    lists: IndexMap<Name, ListLines>,
-    inbound: Vec<(u8, Name)>,
-    alloc: Global,
+    pub(crate) net: Ifaces,
+    pub(crate) table: ListTable,
+    pub(crate) bound: Vec<((u8, bool), Name)>,
+    pub(crate) global: Option<Name>,
+    pub(crate) alloc: Global,
 }
 
 impl Model for Config {
     ghost use Rattle.asa_config.specs.Settings.{Settings};
-    ghost use Rattle.asa_config.specs.Soundness.{IsSound};
+    ghost use Rattle.asa_config.specs.Counted.{lists_in};
+    ghost use Rattle.asa_config.specs.Soundness.{IsKept};
 
     ghost Value = { Settings };
 
     ghost view = { λ c. record {
-      ifaces = c.ifaces.items;
-      routes = c.routes.items;
-      lists = c.lists.entries;
-      inbound = c.inbound.items;
+      net = c.net;
+      lists = lists_in c.table;
+      bound = c.bound.items;
+      global = c.global;
     } };
 
-    ghost invariant = { λ c. IsSound (record {
-      ifaces = c.ifaces.items;
-      routes = c.routes.items;
-      lists = c.lists.entries;
-      inbound = c.inbound.items;
-    }) };
-}
-
-/// An access list as it is bound to an interface.
-#[derive(Clone, Copy, Debug)]
-pub struct InboundList<'a> {
-    /// Its name.
-    pub name: &'a Name,
-    /// Its lines in order.
-    pub lines: &'a [ListLine],
+    ghost invariant = { λ c. IsKept c.net c.table c.bound.items c.global };
 }
 
 impl Config {
     /// The configuration in which nothing is configured; takes no memory.
     pub fn empty(alloc: Global) -> Config
-        ensures { result ≡ nothing }
+        ensures { result ≡ spec.nothing }
     {
         Config {
-            ifaces: Vec::new(alloc),
-            routes: Vec::new(alloc),
-            lists: IndexMap::new(alloc),
-            inbound: Vec::new(alloc),
+            net: Ifaces::new(alloc),
+            table: ListTable::new(alloc),
+            bound: Vec::new(alloc),
+            global: None,
             alloc,
         }
     }
 
-    /// The interfaces in the order of their blocks; an interface's number is its place, from 0.
-    pub fn ifaces(&self) -> &[Iface]
-        ensures value { result.now ≡ self.now.ifaces }
-        ensures few { length result.now ≤ 64 }
+    /// The interfaces, the routes, the times, and what is permitted between interfaces of one level.
+    pub fn ifaces(&self) -> &Ifaces
+        ensures { result.now ≡ self.now.net }
     {
-        self.ifaces.as_slice()
+        &self.net
     }
 
-    /// The interface with this number.
-    pub fn interface_named(&self, ifc: u8) -> &Iface
-        requires { ifc < length self.now.ifaces }
-        ensures { slice_get self.now.ifaces ifc ≡ Some result.now }
+    /// The list that has this name, or None exactly where none has it.
+    pub fn list(&self, name: &Name) -> Option<&Acl>
+        ensures { option_copied result ≡ spec.list_named self.now name.now }
     {
-        &self.ifaces()[usize::from(ifc)]
-    }
-
-    /// Whether there is an interface with this number, and it has a name.
-    pub fn is_named(&self, ifc: u8) -> bool
-        ensures { result ≡ is_named self.now ifc }
-    {
-        match self.ifaces().get(usize::from(ifc)) {
-            Some(iface) => iface.name.is_some(),
-            None => false,
+        match self.table.find(name) {
+            Some(kept) => Some(kept.acl()),
+            None => None,
         }
     }
 
-    /// The route lines in order.
-    #[tactic(auto, using(crate::proofs::SoundLaws::routes_leave))]
-    pub fn routes(&self) -> &[RouteLine]
-        ensures value { result.now ≡ self.now.routes }
-        ensures few { length result.now ≤ 4096 }
-        ensures leave { All (λ r. r.ifc < length self.now.ifaces) result.now }
+    /// How many lists there are.
+    #[tactic(auto, using(crate::proofs::ConfigLaws::length_lists))]
+    pub fn list_count(&self) -> u32
+        ensures value { result ≡ length self.now.lists }
+        ensures few { result ≤ 1024 }
     {
-        self.routes.as_slice()
+        self.table.len() as u32
     }
 
-    /// The list that is bound to the inbound side of an interface, or None exactly where none is.
-    pub fn inbound_list(&self, ifc: u8) -> Option<InboundList<'_>>
-        ensures none { IfNone result (bound_to self.now ifc ≡ None) }
-        ensures list { IfSome result (λ l. (bound_to self.now ifc ≡ Some l.name.now) × (lines_of self.now l.name.now ≡ Some l.lines.now)) }
-        ensures few { IfSome result (λ l. length l.lines.now ≤ 65536) }
+    /// The n-th list, from 0, in order of first definition, or None exactly past the last one.
+    #[tactic(auto, using(crate::proofs::ConfigLaws::list_at_place))]
+    pub fn list_at(&self, n: u32) -> Option<&Acl>
+        ensures { option_copied result ≡ slice_get self.now.lists n }
     {
-        let name = list_bound_to(self.inbound.as_slice(), ifc)?;
-        match self.lists.get(name) {
-            Some(lines) => Some(InboundList {
-                name,
-                lines: lines.as_slice(),
-            }),
-            None => unreachable!(),
+        match self.table.at(n as usize) {
+            Some(kept) => Some(kept.acl()),
+            None => None,
         }
     }
 
-    /// A copy.
+    /// The access groups of interfaces: the number of an interface and whether its inbound side, with the name of the list
+    /// that is bound there.
+    pub fn bindings(&self) -> &[((u8, bool), Name)]
+        ensures { result.now ≡ self.now.bound }
+    {
+        self.bound.as_slice()
+    }
+
+    /// The name of the list that is bound to the inbound side of every interface.
+    pub fn global(&self) -> Option<&Name>
+        ensures { option_copied result ≡ self.now.global }
+    {
+        self.global.as_ref()
+    }
+
+    /// The list that is bound to the inbound or the outbound side of an interface, or None exactly where none is.
+    pub fn list_on(&self, ifc: u8, inbound: bool) -> Option<&Acl>
+        ensures { option_copied result ≡ spec.list_on self.now ifc inbound }
+    {
+        match bound_to(self.bound.as_slice(), (ifc, inbound)) {
+            Some(name) => self.list(name),
+            None => None,
+        }
+    }
+
+    /// The list that is bound to the inbound side of every interface, or None exactly where none is.
+    pub fn global_list(&self) -> Option<&Acl>
+        ensures { option_copied result ≡ spec.global_list self.now }
+    {
+        match &self.global {
+            Some(name) => self.list(name),
+            None => None,
+        }
+    }
+
+    /// The number of prefix pairs of all lists.
+    pub fn pair_count(&self) -> u64
+        ensures value { result ≡ knowing.pair_count self.now }
+        ensures few { result ≤ 262144 }
+    {
+        self.table.pairs()
+    }
+
+    /// What the names of list lines stand for.
+    pub(crate) fn scope(&self) -> Scope<'_>
+        ensures { result.ifaces.now ≡ self.now.net.ifaces }
+    {
+        Scope {
+            ifaces: self.net.ifaces(),
+        }
+    }
+
+    /// The boxes of a list in the order of its lines; of a line source by source, in it destination by destination, in it
+    /// service by service.
+    pub fn boxes(&self, alloc: Global, list: &Acl) -> Result<Items<LineBox>, AllocError>
+        ensures value { IfOk result (λ bs. bs ≡ knowing.boxes_under self.now list.now) }
+        ensures pairs { IfOk result (λ bs. sum_by pairs.box_pairs bs ≡ pairs.list_pairs (knowing.meanings_of self.now) list.now.lines) }
+    {
+        boxes(alloc, &self.scope(), list.lines())
+    }
+
+    /// A copy, which shares the lists.
     pub fn copy(&self) -> Result<Config, AllocError>
         ensures { IfOk result (λ c. c ≡ self.now) }
     {
         Ok(Config {
-            ifaces: copy_ifaces(self.alloc, self.ifaces.as_slice())?,
-            routes: Vec::from_slice(self.alloc, self.routes.as_slice())?,
-            lists: copy_lists(&self.lists)?,
-            inbound: copy_bindings(self.alloc, self.inbound.as_slice())?,
+            net: self.net.copy()?,
+            table: self.table.copy()?,
+            bound: copy_bindings(self.alloc, self.bound.as_slice())?,
+            global: self.global.as_ref().map(|name| name.copy()),
             alloc: self.alloc,
         })
     }
+}
 
-    /// The configuration after a block, taken as a whole or not at all; this one stays. `startup` tells that the block
-    /// stands before `: end`.
-    pub fn edit(&self, block: &Block, startup: bool) -> Result<Config, EditRefusal>
-        ensures { Gives result (step self.now block.now startup) }
-    {
-        let mut next = self.copy()?;
-        next.step(block, startup)?;
-        Ok(next)
+impl Names for Config {
+    ghost use Rattle.asa_config.specs.Knowing.{known_of};
+
+    ghost known = { λ c. known_of c };
+
+    fn kind_of(&self, name: &Name) -> Option<Kind> {
+        let _ = name;
+        None
     }
 
-    /// The number of the interface that has this name.
-    pub fn interface_of(&self, name: &Name) -> Option<u8>
-        ensures value { result ≡ interface_of self.now name.now }
-        ensures within { IfSome result (λ n. n < length self.now.ifaces) }
-    {
-        let place = place_of(self.ifaces.as_slice(), name)?;
-        Some(place as u8)
+    fn interface_of(&self, name: &Name) -> Option<u8> {
+        self.net.interface_of(name)
     }
 
-    /// Whether an access list has this name.
-    pub fn has_list(&self, name: &Name) -> bool
-        ensures { result ≡ is_some (lines_of self.now name.now) }
-    {
-        self.lists.contains_key(name)
+    fn port_proto(&self, name: &Name) -> Option<PortProto> {
+        let _ = name;
+        None
     }
 
-    /// Adds an interface at the end.
-    #[tactic(auto, using(crate::proofs::SoundLaws::sound_interface))]
-    fn add_interface(&mut self, iface: Iface) -> Result<(), AllocError>
-        requires { length self.old.ifaces < 64 }
-        ensures ok { OnOk result (self.new ≡ with_interface self.old iface) }
-        ensures err { OnErr result (self.new ≡ self.old) }
-    {
-        self.ifaces.push(iface)?;
-        Ok(())
+    fn service_range(&self, name: &Name) -> Option<Service> {
+        let _ = name;
+        None
     }
 
-    /// Puts a route line in its place.
-    #[tactic(auto, unfolding(crate::specs::Routes::route_added))]
-    fn add_route(&mut self, route: RouteLine) -> Result<(), EditRefusal>
-        requires { route.ifc < length self.old.ifaces }
-        ensures { Makes result self.old self.new (route_added self.old route) }
-    {
-        put_route(&mut self.routes, route)
-    }
-
-    /// Puts a list line at the end of its list.
-    #[tactic(auto, unfolding(crate::specs::Lists::line_added))]
-    fn add_line(&mut self, list: Name, line: ListLine) -> Result<(), EditRefusal>
-        ensures { Makes result self.old self.new (line_added self.old list line) }
-    {
-        put_line(self.alloc, &mut self.lists, list, line)
-    }
-
-    /// Binds a list to the inbound side of an interface.
-    fn bind(&mut self, ifc: u8, list: Name) -> Result<(), AllocError>
-        requires enters { ifc < length self.old.ifaces }
-        requires defined { is_some (lines_of self.old list) ≡ true }
-        ensures ok { OnOk result (self.new ≡ with_inbound self.old ifc list) }
-        ensures err { OnErr result (self.new ≡ self.old) }
-    {
-        put_binding(&mut self.inbound, ifc, list)
-    }
-
-    /// Takes an interface block.
-    #[tactic(auto, unfolding(crate::specs::Interfaces::interface_step))]
-    fn step_interface(&mut self, block: &Block, startup: bool) -> Result<(), EditRefusal>
-        ensures { Makes result self.old self.new (interface_step self.old block.now startup) }
-    {
-        let iface = added_interface(self, block, startup)?;
-        self.add_interface(iface)?;
-        Ok(())
-    }
-
-    /// Takes a route line.
-    #[tactic(auto, unfolding(crate::specs::Routes::route_step))]
-    fn step_route(&mut self, block: &Block) -> Result<(), EditRefusal>
-        ensures { Makes result self.old self.new (route_step self.old block.now) }
-    {
-        let route = route_of_block(self, block)?;
-        self.add_route(route)
-    }
-
-    /// Takes a list line.
-    #[tactic(auto, unfolding(crate::specs::Lists::list_step))]
-    fn step_list(&mut self, block: &Block) -> Result<(), EditRefusal>
-        ensures { Makes result self.old self.new (list_step self.old block.now) }
-    {
-        let (list, line) = line_of_block(block)?;
-        self.add_line(list, line)
-    }
-
-    /// Takes an access group.
-    #[tactic(auto, unfolding(crate::specs::Lists::group_step))]
-    fn step_group(&mut self, block: &Block) -> Result<(), EditRefusal>
-        ensures { Makes result self.old self.new (group_step self.old block.now) }
-    {
-        let (ifc, list) = group_of_block(self, block)?;
-        self.bind(ifc, list)?;
-        Ok(())
-    }
-
-    /// Takes a block, as a whole or not at all; `startup` tells that it stands before `: end`. After a refusal, and
-    /// where memory runs out, the configuration is as it was.
-    #[tactic(auto, unfolding(crate::specs::Steps::step))]
-    pub fn step(&mut self, block: &Block, startup: bool) -> Result<(), EditRefusal>
-        ensures { Makes result self.old self.new (step self.old block.now startup) }
-    {
-        let words = top_words(block);
-        if words.next_is(b"interface") {
-            return self.step_interface(block, startup);
-        }
-        if words.next_is(b"route") {
-            return self.step_route(block);
-        }
-        if words.next_is(b"access-list") {
-            return self.step_list(block);
-        }
-        if words.next_is(b"access-group") {
-            return self.step_group(block);
-        }
-        Err(unbuilt(1))
+    fn address_of(&self, ifc: u8) -> Option<Addr> {
+        self.net.address_of(ifc)
     }
 }
 
-/// Whether the interface has this name.
-fn has_name(iface: &Iface, name: &Name) -> bool
-    ensures { result ≡ spec.has_name name.now iface.now }
+/// Whether the two sides of interfaces are the same.
+pub(crate) fn is_same_side(a: (u8, bool), b: (u8, bool)) -> bool
+    ensures { result ≡ spec.same_side a b }
 {
-    match &iface.name {
-        Some(given) => given == name,
-        None => false,
-    }
+    a.0 == b.0 && a.1 == b.1
 }
 
-/// The place of the first interface that has this name.
-fn place_of(ifaces: &[Iface], name: &Name) -> Option<usize>
-    ensures value { result ≡ position (spec.has_name name.now) ifaces.now }
-    ensures within { IfSome result (λ n. n < length ifaces.now) }
+/// The name of the list that is bound to a side of an interface.
+pub(crate) fn bound_to(bound: &[((u8, bool), Name)], side: (u8, bool)) -> Option<&Name>
+    ensures { option_copied result ≡ spec.bound_to bound.now side }
 {
-    ifaces.iter().position(|i| has_name(i, name))
-}
-
-/// A copy of the interfaces.
-fn copy_ifaces(alloc: Global, ifaces: &[Iface]) -> Result<Vec<Iface>, AllocError>
-    ensures { IfOk result (λ v. v.items ≡ ifaces.now) }
-{
-    let mut copied = Vec::with_capacity(alloc, ifaces.len())?;
-    for iface in ifaces {
-        copied.push(iface.copy())?;
+    for (bound_side, name) in bound {
+        if is_same_side(side, *bound_side) {
+            return Some(name);
+        }
     }
-    Ok(copied)
+    None
 }
 
 /// A copy of the bindings.
-fn copy_bindings(alloc: Global, bindings: &[(u8, Name)]) -> Result<Vec<(u8, Name)>, AllocError>
+fn copy_bindings(
+    alloc: Global,
+    bindings: &[((u8, bool), Name)],
+) -> Result<Vec<((u8, bool), Name)>, AllocError>
     ensures { IfOk result (λ v. v.items ≡ bindings.now) }
 {
     let mut copied = Vec::with_capacity(alloc, bindings.len())?;
@@ -302,23 +228,4 @@ fn copy_bindings(alloc: Global, bindings: &[(u8, Name)]) -> Result<Vec<(u8, Name
         copied.push((binding.0, binding.1.copy()))?;
     }
     Ok(copied)
-}
-
-/// A copy of the lists.
-fn copy_lists(lists: &IndexMap<Name, ListLines>) -> Result<IndexMap<Name, ListLines>, AllocError>
-    ensures { IfOk result (λ m. m.entries ≡ lists.now.entries) }
-{
-    lists.clone()
-}
-
-/// The name of the list that is bound to an interface.
-fn list_bound_to(bindings: &[(u8, Name)], ifc: u8) -> Option<&Name>
-    ensures { option_copied result ≡ spec.bound_among bindings.now ifc }
-{
-    for (number, name) in bindings {
-        if ifc == *number {
-            return Some(name);
-        }
-    }
-    None
 }

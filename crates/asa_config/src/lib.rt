@@ -2,15 +2,25 @@
 //! configuration by one block, and readers of its parts.
 #![tactic(auto)]
 
-mod building;
+mod binding;
+mod classing;
 mod configuring;
-mod holding;
-mod interfacing;
+mod fitting;
+mod judging;
+mod lining;
 mod listing;
-mod routing;
+mod netting;
+mod reading;
+mod refusing;
+mod scoping;
+mod stating;
+mod stepping;
+mod tabling;
 #[cfg(test)]
 mod tests;
 
+pub use asa_ifaces::{Iface, Ifaces, RouteLine, Timeouts};
 pub use asa_text::cut_blocks;
-pub use configuring::{Config, InboundList};
-pub use holding::{AddressRef, EditFault, EditRefusal, Iface, ListLine, RouteLine};
+pub use classing::{Class, class_of};
+pub use configuring::Config;
+pub use refusing::{EditFault, EditRefusal};

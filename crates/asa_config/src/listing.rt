@@ -1,230 +1,151 @@
-//! Lines of access lists and access groups.
-ghost use Rattle.std.specs.Prelude.{◌≡◌, ◌==◌, ◌<◌, ◌≤◌, [], ◌∷◌, ◌++◌, true, IfOk, IfSome, IfNone, OnOk, OnErr, Some, is_some, length, slice_set};
-ghost use Rattle.asa_text.specs.Readers.{Reads};
-ghost use Rattle.asa_config.specs.Building.{Makes, alone};
-ghost use Rattle.asa_config.specs.Lists as spec;
-ghost use Rattle.asa_config.specs.Settings.{lines_of};
+//! Access lists, each with the number of its prefix pairs.
+ghost use Rattle.std.specs.Prelude.{◌≡◌, ◌+◌, ◌<◌, ◌≤◌, IfOk, IfSome, OnOk, OnErr, length};
+ghost use Rattle.asa_acl.specs.Lists.{with_line};
+ghost use Rattle.asa_config.specs.Counted as spec;
 
-use crate::building::{has_inner, top_words, unbuilt};
-use crate::configuring::Config;
-use crate::holding::{AddressRef, EditRefusal, ListLine, ListLines};
-use crate::routing::read_interface;
-use asa_base::{Name, name};
-use asa_text::{Block, LineFault, Words, address, end_of_line, keyword, number};
-use indexmap::IndexMap;
+use asa_acl::{Acl, AclFault, AclLine};
+use asa_base::Name;
 use std::alloc::{AllocError, Global};
+use std::marker::Model;
+use std::sync::Arc;
 
-/// Reads `host A`.
-#[tactic(auto, unfolding(crate::specs::Lists::host_at))]
-fn read_host(words: &mut Words<'_>) -> Result<AddressRef, LineFault>
-    ensures { Reads result words.new (spec.host_at words.old) }
-{
-    keyword(words, b"host")?;
-    let addr = address(words)?;
-    Ok(AddressRef::Host(addr))
+/// A list that is copied where one of its owners changes it.
+#[derive(Debug, Drop)]
+struct OwnedList {
+    acl: Acl,
 }
 
-/// Reads `any` or `host A`.
-#[tactic(auto, unfolding(crate::specs::Lists::address_ref_at))]
-fn read_address_ref(words: &mut Words<'_>) -> Result<AddressRef, LineFault>
-    ensures { Reads result words.new (spec.address_ref_at words.old) }
-{
-    if words.next_is(b"any") {
-        let _any = words.next();
-        return Ok(AddressRef::Any);
-    }
-    read_host(words)
+impl Model for OwnedList {
+    ghost use Rattle.asa_acl.specs.Lists.{AccessLines};
+
+    ghost Value = { AccessLines };
+
+    ghost view = { λ l. l.acl };
 }
 
-/// Reads `eq P`.
-#[tactic(auto, unfolding(crate::specs::Lists::equal_port_at))]
-fn read_equal_port(words: &mut Words<'_>) -> Result<Option<u16>, LineFault>
-    ensures { Reads result words.new (spec.equal_port_at words.old) }
-{
-    keyword(words, b"eq")?;
-    let port = number(words, 0, 65535)?;
-    Ok(Some(port as u16))
-}
+impl Clone for OwnedList {
+    ghost use Rattle.std.specs.Prelude.{◌≡◌};
 
-/// Reads `eq P`, or nothing where the line ends.
-#[tactic(auto, unfolding(crate::specs::Lists::port_at))]
-fn read_port(words: &mut Words<'_>) -> Result<Option<u16>, LineFault>
-    ensures { Reads result words.new (spec.port_at words.old) }
-{
-    if words.peek().is_none() {
-        return Ok(None);
-    }
-    read_equal_port(words)
-}
+    ghost is_clone = { λ a b. b ≡ a };
 
-/// Reads `extended permit tcp SOURCE DEST [eq P]` to the line's end.
-#[tactic(auto, unfolding(crate::specs::Lists::permit_line))]
-fn read_permit(words: &mut Words<'_>) -> Result<ListLine, LineFault>
-    ensures { Reads result words.new (spec.permit_line words.old) }
-{
-    keyword(words, b"extended")?;
-    keyword(words, b"permit")?;
-    keyword(words, b"tcp")?;
-    let source = read_address_ref(words)?;
-    let dest = read_address_ref(words)?;
-    let port = read_port(words)?;
-    end_of_line(words)?;
-    Ok(ListLine { source, dest, port })
-}
-
-/// Reads a whole list line.
-#[tactic(auto, unfolding(crate::specs::Lists::list_line))]
-fn read_list_line(words: &mut Words<'_>) -> Result<(Name, ListLine), LineFault>
-    ensures { Reads result words.new (spec.list_line words.old) }
-{
-    keyword(words, b"access-list")?;
-    let list = name(words)?;
-    let line = read_permit(words)?;
-    Ok((list, line))
-}
-
-/// The list's name and the line of a block that is a list line alone.
-pub(crate) fn line_of_block(block: &Block) -> Result<(Name, ListLine), EditRefusal>
-    ensures { result ≡ alone block.now spec.list_line }
-{
-    let mut words = top_words(block);
-    let Ok(line) = read_list_line(&mut words) else {
-        return Err(unbuilt(1));
-    };
-    if has_inner(block) {
-        return Err(unbuilt(2));
-    }
-    Ok(line)
-}
-
-/// Appends the line, where there is room for it.
-#[tactic(auto, unfolding(crate::specs::Lists::lines_step))]
-fn push_line(lines: &mut ListLines, line: ListLine) -> Result<(), EditRefusal>
-    ensures { Makes result lines.old lines.new (spec.lines_step lines.old line) }
-{
-    if lines.len() >= 65536 {
-        return Err(unbuilt(1));
-    }
-    lines.push(line)?;
-    Ok(())
-}
-
-/// A list of this line alone.
-fn list_of(alloc: Global, line: ListLine) -> Result<ListLines, AllocError>
-    ensures { IfOk result (λ l. l ≡ line ∷ []) }
-{
-    let mut lines = ListLines::new(alloc);
-    lines.push(line)?;
-    Ok(lines)
-}
-
-/// Puts the line at the end of the list that has this name, or into a new list at the end.
-#[tactic(auto, unfolding(crate::specs::Lists::lists_step))]
-pub(crate) fn put_line(
-    alloc: Global,
-    lists: &mut IndexMap<Name, ListLines>,
-    list: Name,
-    line: ListLine,
-) -> Result<(), EditRefusal>
-    ensures { Makes result lists.old.entries lists.new.entries (spec.lists_step lists.old.entries list line) }
-{
-    if let Some(lines) = lists.get_mut(&list) {
-        return push_line(lines, line);
-    }
-    if lists.len() >= 1024 {
-        return Err(unbuilt(1));
-    }
-    let lines = list_of(alloc, line)?;
-    match lists.insert(list, lines) {
-        Ok(_) => Ok(()),
-        Err(_) => Err(EditRefusal::NoMemory),
+    fn clone(&self) -> Result<OwnedList, AllocError> {
+        let acl = self.acl.copy()?;
+        Ok(OwnedList { acl })
     }
 }
 
-/// Reads the name of a list that is defined.
-#[tactic(auto, unfolding(crate::specs::Lists::list_at))]
-fn read_list(config: &Config, words: &mut Words<'_>) -> Result<Name, LineFault>
-    ensures value { Reads result words.new (spec.list_at config.now words.old) }
-    ensures defined { IfOk result (λ n. is_some (lines_of config.now n) ≡ true) }
-{
-    let word = words.word()?;
-    let column = word.column();
-    let Some(list) = Name::new(word.bytes()) else {
-        return Err(LineFault::Bad { column });
-    };
-    if config.has_list(&list) {
-        Ok(list)
-    } else {
-        Err(LineFault::Unknown { column })
+/// An access list with the number of its prefix pairs. Copies of a configuration share it until one of them changes it.
+#[derive(Debug, Drop)]
+pub(crate) struct KeptList {
+    list: Arc<OwnedList>,
+    pairs: u64,
+}
+
+impl Model for KeptList {
+    ghost use Rattle.std.specs.Arc.{arc_value};
+    ghost use Rattle.asa_config.specs.Counted.{Counted};
+
+    ghost Value = { Counted };
+
+    ghost view = { λ k. record { list = arc_value k.list; pairs = k.pairs } };
+}
+
+impl Clone for KeptList {
+    ghost use Rattle.std.specs.Prelude.{◌≡◌};
+
+    ghost is_clone = { λ a b. b ≡ a };
+
+    fn clone(&self) -> Result<KeptList, AllocError> {
+        let list = Arc::try_clone(&self.list)?;
+        Ok(KeptList {
+            list,
+            pairs: self.pairs,
+        })
     }
 }
 
-/// Reads a whole access-group line: the interface and the list.
-#[tactic(auto, unfolding(crate::specs::Lists::group_line))]
-fn read_group(config: &Config, words: &mut Words<'_>) -> Result<(u8, Name), LineFault>
-    ensures value { Reads result words.new (spec.group_line config.now words.old) }
-    ensures enters { IfOk result (λ b. b.0 < length config.now.ifaces) }
-    ensures defined { IfOk result (λ b. is_some (lines_of config.now b.1) ≡ true) }
+/// Puts a line into a list that has room for it.
+fn put_line(list: &mut OwnedList, place: Option<u32>, item: AclLine) -> Result<(), AllocError>
+    requires counted { IfSome place (λ n. 1 ≤ n) }
+    requires room { length list.old.lines < 65536 }
+    ensures ok { OnOk result (list.new ≡ with_line list.old place item) }
+    ensures err { OnErr result (list.new ≡ list.old) }
 {
-    keyword(words, b"access-group")?;
-    let list = read_list(config, words)?;
-    keyword(words, b"in")?;
-    keyword(words, b"interface")?;
-    let ifc = read_interface(config, words)?;
-    end_of_line(words)?;
-    Ok((ifc, list))
-}
-
-/// The interface and the list of a block that is an access-group line alone.
-pub(crate) fn group_of_block(config: &Config, block: &Block) -> Result<(u8, Name), EditRefusal>
-    ensures value { result ≡ alone block.now (spec.group_line config.now) }
-    ensures enters { IfOk result (λ b. b.0 < length config.now.ifaces) }
-    ensures defined { IfOk result (λ b. is_some (lines_of config.now b.1) ≡ true) }
-{
-    let mut words = top_words(block);
-    let Ok(group) = read_group(config, &mut words) else {
-        return Err(unbuilt(1));
-    };
-    if has_inner(block) {
-        return Err(unbuilt(2));
+    match list.acl.insert(place, item) {
+        Ok(()) => Ok(()),
+        Err(AclFault::TooMany) => unreachable!(),
+        Err(AclFault::NoMemory) => Err(AllocError),
     }
-    Ok(group)
 }
 
-fn is_binding_of(binding: &(u8, Name), ifc: u8) -> bool
-    ensures { result ≡ (ifc == binding.now.0) }
-{
-    ifc == binding.0
-}
-
-/// The place of the binding of an interface.
-#[tactic(auto, using(crate::proofs::ListLaws::with_binding_at))]
-fn place_of_binding(bindings: &[(u8, Name)], ifc: u8, list: &Name) -> Option<usize>
-    ensures last { IfNone result (spec.with_binding bindings.now ifc list.now ≡ bindings.now ++ (ifc, list.now) ∷ []) }
-    ensures placed { IfSome result (λ i. spec.with_binding bindings.now ifc list.now ≡ slice_set bindings.now i (ifc, list.now)) }
-    ensures within { IfSome result (λ i. i < length bindings.now) }
-{
-    for (i, binding) in bindings.iter().enumerate() {
-        if is_binding_of(binding, ifc) {
-            return Some(i);
-        }
+impl KeptList {
+    /// A list of one line, which has so many pairs.
+    #[tactic(auto, unfolding(asa_acl::specs::Lists::with_line))]
+    pub(crate) fn of(
+        alloc: Global,
+        name: Name,
+        item: AclLine,
+        pairs: u64,
+    ) -> Result<KeptList, AllocError>
+        ensures { IfOk result (λ k. k ≡ record { list = spec.list_of name item; pairs = pairs }) }
+    {
+        let mut list = OwnedList {
+            acl: Acl::new(alloc, name),
+        };
+        put_line(&mut list, None, item)?;
+        let list = Arc::new(alloc, list)?;
+        Ok(KeptList { list, pairs })
     }
-    None
-}
 
-/// Binds a list to an interface, in the place of the earlier binding.
-pub(crate) fn put_binding(
-    bindings: &mut Vec<(u8, Name)>,
-    ifc: u8,
-    list: Name,
-) -> Result<(), AllocError>
-    ensures ok { OnOk result (bindings.new.items ≡ spec.with_binding bindings.old.items ifc list) }
-    ensures err { OnErr result (bindings.new.items ≡ bindings.old.items) }
-{
-    if let Some(i) = place_of_binding(bindings.as_slice(), ifc, &list) {
-        bindings[i] = (ifc, list);
-        return Ok(());
+    /// The list.
+    pub(crate) fn acl(&self) -> &Acl
+        ensures { result.now ≡ self.now.list }
+    {
+        &self.list.acl
     }
-    bindings.push((ifc, list))?;
-    Ok(())
+
+    /// The number of its prefix pairs.
+    pub(crate) fn pairs(&self) -> u64
+        ensures { result ≡ self.now.pairs }
+    {
+        self.pairs
+    }
+
+    /// Puts a line in, which has so many pairs. On want of memory the list is as it was.
+    pub(crate) fn put(
+        &mut self,
+        place: Option<u32>,
+        item: AclLine,
+        pairs: u64,
+    ) -> Result<(), AllocError>
+        requires counted { IfSome place (λ n. 1 ≤ n) }
+        requires room { length self.old.list.lines < 65536 }
+        requires few { self.old.pairs + pairs ≤ 262144 }
+        ensures ok { OnOk result (self.new ≡ spec.line_put self.old place item pairs) }
+        ensures err { OnErr result (self.new ≡ self.old) }
+    {
+        let list = Arc::make_mut(&mut self.list)?;
+        put_line(list, place, item)?;
+        self.pairs += pairs;
+        Ok(())
+    }
+
+    /// Removes the first line that equals this one, which has so many pairs. On want of memory the list is as it was.
+    pub(crate) fn take(&mut self, item: &AclLine, pairs: u64) -> Result<(), AllocError>
+        requires { pairs ≤ self.old.pairs }
+        ensures ok { OnOk result (self.new ≡ spec.line_taken self.old item.now pairs) }
+        ensures err { OnErr result (self.new ≡ self.old) }
+    {
+        let list = Arc::make_mut(&mut self.list)?;
+        let _found = list.acl.remove_equal(item);
+        self.pairs -= pairs;
+        Ok(())
+    }
+
+    /// Counts the pairs anew.
+    pub(crate) fn recount(&mut self, pairs: u64)
+        ensures { self.new ≡ record { list = self.old.list; pairs = pairs } }
+    {
+        self.pairs = pairs;
+    }
 }

@@ -1,23 +1,24 @@
 //! What lies outside the contracts: that the clauses mean what they should, at configurations from the rules.
 ghost use Rattle.std.specs.Prelude.{◌<◌, ◌^◌, length};
 
-use crate::{AddressRef, Config, EditFault, EditRefusal, ListLine, RouteLine, cut_blocks};
-use asa_base::{Name, Prefix};
+use crate::{Class, Config, EditFault, EditRefusal, class_of, cut_blocks};
+use asa_base::{LineBox, Name, PortRange, Range, Service};
 use asa_text::Addr;
 use std::alloc::Global;
 use std::process::Abort;
 use std::test::Fail;
 
-const TWO_INTERFACES: &[u8] = b"interface GigabitEthernet0/0\n\
+const BASE: &[u8] = b"interface GigabitEthernet0/0\n\
     \x20nameif outside\n\
     \x20security-level 0\n\
     \x20ip address 203.0.113.2 255.255.255.0\n\
     interface GigabitEthernet0/1\n\
     \x20nameif inside\n\
     \x20security-level 100\n\
-    \x20ip address 10.0.0.1 255.255.255.0\n";
+    \x20ip address 10.0.0.1 255.255.255.0\n\
+    access-list L extended permit ip any any\n";
 
-/// The configuration after the blocks of a startup text, from what is there.
+/// Takes the blocks of a startup text.
 fn take(alloc: Global, config: &mut Config, text: &[u8]) -> Result<(), Fail>
     requires { length text.now < 2 ^ 31 }
 {
@@ -28,12 +29,12 @@ fn take(alloc: Global, config: &mut Config, text: &[u8]) -> Result<(), Fail>
     Ok(())
 }
 
-/// The two interfaces, and the blocks of a startup text.
+/// Two interfaces, a list with one line, and the blocks of a startup text.
 fn configured(alloc: Global, text: &[u8]) -> Result<Config, Fail>
     requires { length text.now < 2 ^ 31 }
 {
     let mut config = Config::empty(alloc);
-    take(alloc, &mut config, TWO_INTERFACES)?;
+    take(alloc, &mut config, BASE)?;
     take(alloc, &mut config, text)?;
     Ok(config)
 }
@@ -43,7 +44,7 @@ fn answer_to(alloc: Global, text: &[u8], startup: bool) -> Result<Result<(), Edi
     requires { length text.now < 2 ^ 31 }
 {
     let mut config = Config::empty(alloc);
-    take(alloc, &mut config, TWO_INTERFACES)?;
+    take(alloc, &mut config, BASE)?;
     let blocks = cut_blocks(alloc, text, 1)?.map_err(|_| "a line before the first block")?;
     let (last, others) = blocks.as_slice().split_last().ok_or("no block")?;
     for block in others {
@@ -52,16 +53,27 @@ fn answer_to(alloc: Global, text: &[u8], startup: bool) -> Result<Result<(), Edi
     Ok(config.step(last, startup))
 }
 
-/// Asserts that the last block of each text isn't built at a line of it.
-fn assert_unbuilt(rt: &(impl Abort + AllocGlobal), line: u32, text: &[u8]) -> Result<(), Fail>
+/// Asserts that the last block of a text is refused at a line of it.
+fn assert_refused(
+    rt: &(impl Abort + AllocGlobal),
+    line: u32,
+    fault: EditFault,
+    text: &[u8],
+) -> Result<(), Fail>
     requires { length text.now < 2 ^ 31 }
 {
-    let refusal = EditRefusal::At {
-        line,
-        fault: EditFault::NotBuilt,
-    };
     let answer = answer_to(rt.alloc(), text, true)?;
-    assert_eq!(rt; answer, Err(refusal));
+    assert_eq!(rt; answer, Err(EditRefusal::At { line, fault }));
+    Ok(())
+}
+
+/// Asserts that the one block of a text has this class.
+fn assert_class(rt: &(impl Abort + AllocGlobal), class: Class, text: &[u8]) -> Result<(), Fail>
+    requires { length text.now < 2 ^ 31 }
+{
+    let blocks = cut_blocks(rt.alloc(), text, 1)?.map_err(|_| "a line before the first block")?;
+    let block = blocks.as_slice().first().ok_or("no block")?;
+    assert_eq!(rt; class_of(block), class);
     Ok(())
 }
 
@@ -69,295 +81,221 @@ fn name(text: &[u8]) -> Result<Name, Fail> {
     Ok(Name::new(text).ok_or("no name")?)
 }
 
+fn bad(column: u32) -> EditFault {
+    EditFault::Bad { column }
+}
+
 #[test]
-fn an_interface_has_what_its_lines_state(rt: HostRuntime) -> Result<(), Fail> {
-    let text = b"interface Ethernet2\n\
-            \x20ip address 192.0.2.77 255.255.255.128\n\
-            \x20security-level 50\n\
-            \x20nameif dmz\n";
-    let config = configured(rt.alloc(), text)?;
-    let number = config.interface_of(&name(b"dmz")?);
-    assert_eq!(rt; number, Some(2));
-    let iface = config.ifaces().get(2).ok_or("no interface")?;
-    assert_eq!(rt; iface.hardware, name(b"Ethernet2")?);
-    assert_eq!(rt; iface.name, Some(name(b"dmz")?));
-    assert_eq!(rt; iface.level, 50);
-    assert_eq!(rt; iface.addr, Some((Addr(0xc000_024d), 25)));
-    assert!(rt; !iface.shutdown);
+fn a_block_belongs_to_a_part_of_the_policy(rt: HostRuntime) -> Result<(), Fail> {
+    assert_class(&rt, Class::Passed, b"mtu inside 1500\n")?;
+    assert_class(&rt, Class::Passed, b"no\n")?;
+    assert_class(&rt, Class::Passed, b"access-list X standard permit any\n")?;
+    assert_class(
+        &rt,
+        Class::Access,
+        b"no access-list X standard permit any\n",
+    )?;
+    assert_class(&rt, Class::Passed, b"access-list alert-interval 5\n")?;
+    assert_class(&rt, Class::Passed, b"no interface X\n")?;
+    assert_class(&rt, Class::Passed, b"asp load-balance per-packet\n")?;
+    assert_class(
+        &rt,
+        Class::Other,
+        b"asp rule-engine transactional-commit nat\n",
+    )?;
+    assert_class(&rt, Class::Other, b"timeout\n")?;
+    assert_class(&rt, Class::Nat, b"nat (a,b) source static any any\n")?;
+    assert_class(&rt, Class::Nat, b"object network A\n no nat\n")?;
+    assert_class(&rt, Class::Both, b"object network A\n host 192.0.2.1\n")?;
+    assert_class(&rt, Class::Both, b"no object-group service G\n")?;
     Ok(())
 }
 
 #[test]
-fn a_level_that_is_not_stated_goes_by_the_name(rt: HostRuntime) -> Result<(), Fail> {
-    let text = b"interface A\n\
-            \x20nameif inside\n\
-            interface B\n\
-            \x20nameif Inside\n\
-            interface C\n\
-            \x20security-level 7\n\
-            interface D\n";
-    let mut config = Config::empty(rt.alloc());
-    take(rt.alloc(), &mut config, text)?;
-    let mut levels = [255u8; 4];
-    for (level, iface) in levels.iter_mut().zip(config.ifaces()) {
-        *level = iface.level;
-    }
-    assert_eq!(rt; levels, [100, 0, 7, 0]);
-    assert!(rt; config.is_named(1));
-    assert!(rt; !config.is_named(2));
-    assert!(rt; !config.is_named(4));
+fn a_list_line_is_refused_at_its_word(rt: HostRuntime) -> Result<(), Fail> {
+    let unknown = EditFault::Unknown { column: 16 };
+    assert_refused(&rt, 1, bad(20), b"access-list L line 0 permit ip any any\n")?;
+    assert_refused(
+        &rt,
+        1,
+        bad(20),
+        b"access-list L line 65537 permit ip any any\n",
+    )?;
+    assert_refused(&rt, 1, bad(14), b"access-list L\n")?;
+    assert_refused(&rt, 2, bad(2), b"access-list L permit ip any any\n x\n")?;
+    assert_refused(&rt, 1, unknown, b"no access-list M nonsense\n")?;
+    assert_refused(
+        &rt,
+        1,
+        EditFault::NoSuchLine,
+        b"no access-list L deny ip any any\n",
+    )?;
     Ok(())
 }
 
 #[test]
-fn an_interface_line_that_is_not_built_is_told(rt: HostRuntime) -> Result<(), Fail> {
-    assert_unbuilt(&rt, 1, b"interface GigabitEthernet0/1\n nameif other\n")?;
-    assert_unbuilt(&rt, 1, b"interface\n nameif other\n")?;
-    assert_unbuilt(&rt, 1, b"interface Ethernet2 Ethernet3\n")?;
-    assert_unbuilt(&rt, 2, b"interface Ethernet2\n nameif inside\n")?;
-    assert_unbuilt(&rt, 2, b"interface Ethernet2\n nameif any\n")?;
-    assert_unbuilt(&rt, 2, b"interface Ethernet2\n nameif dmz,lan\n")?;
-    assert_unbuilt(&rt, 3, b"interface Ethernet2\n nameif dmz\n nameif lan\n")?;
-    assert_unbuilt(
+fn an_access_group_is_refused_at_its_word(rt: HostRuntime) -> Result<(), Fail> {
+    let unknown = EditFault::Unknown { column: 14 };
+    let nowhere = EditFault::NoSuchInterface { column: 29 };
+    let override_ = EditFault::Unsupported { column: 36 };
+    let control = EditFault::Unsupported { column: 23 };
+    assert_refused(&rt, 1, unknown, b"access-group M in interface inside\n")?;
+    assert_refused(&rt, 1, bad(16), b"access-group L at interface inside\n")?;
+    assert_refused(&rt, 1, nowhere, b"access-group L in interface lan\n")?;
+    assert_refused(
         &rt,
-        3,
-        b"interface Ethernet2\n nameif dmz\n security-level 101\n",
+        1,
+        override_,
+        b"access-group L in interface inside per-user-override\n",
     )?;
-    assert_unbuilt(
+    assert_refused(&rt, 1, control, b"access-group L global control-plane\n")?;
+    assert_refused(&rt, 1, EditFault::NotBound, b"no access-group L global\n")?;
+    assert_refused(
         &rt,
-        3,
-        b"interface Ethernet2\n security-level 100\n security-level 100\n",
+        1,
+        EditFault::NotBound,
+        b"access-group L in interface inside\nno access-group L out interface inside\n",
     )?;
-    assert_unbuilt(&rt, 2, b"interface Ethernet2\n ip address 10.0.1.1\n")?;
-    assert_unbuilt(
+    Ok(())
+}
+
+#[test]
+fn a_list_that_is_bound_keeps_its_last_line(rt: HostRuntime) -> Result<(), Fail> {
+    let in_use = EditFault::InUse {
+        by: name(b"access-group")?,
+    };
+    assert_refused(
+        &rt,
+        1,
+        in_use,
+        b"access-group L global\nno access-list L permit ip any any\n",
+    )?;
+    let config = configured(rt.alloc(), b"no access-list L permit ip any any\n")?;
+    assert_eq!(rt; config.list_count(), 0);
+    Ok(())
+}
+
+#[test]
+fn lines_of_routes_times_and_levels_are_refused_at_their_words(
+    rt: HostRuntime,
+) -> Result<(), Fail> {
+    let tunneled = EditFault::Unsupported { column: 31 };
+    let nowhere = EditFault::NoSuchInterface { column: 7 };
+    assert_refused(
+        &rt,
+        1,
+        tunneled,
+        b"route outside 0 0 203.0.113.1 tunneled\n",
+    )?;
+    assert_refused(&rt, 1, nowhere, b"route lan 0 0 203.0.113.1\n")?;
+    assert_refused(&rt, 2, bad(2), b"route outside 0 0 203.0.113.1\n x\n")?;
+    assert_refused(
+        &rt,
+        1,
+        EditFault::NoSuchLine,
+        b"no route outside 0 0 203.0.113.1\n",
+    )?;
+    assert_refused(&rt, 1, bad(14), b"timeout conn 1:00\n")?;
+    assert_refused(&rt, 1, bad(30), b"same-security-traffic permit any\n")?;
+    assert_refused(
+        &rt,
+        1,
+        bad(46),
+        b"same-security-traffic permit inter-interface x\n",
+    )?;
+    Ok(())
+}
+
+#[test]
+fn an_interface_block_is_refused_at_its_line(rt: HostRuntime) -> Result<(), Fail> {
+    assert_refused(
+        &rt,
+        1,
+        EditFault::NameTaken,
+        b"interface GigabitEthernet0/1\n",
+    )?;
+    assert_refused(
         &rt,
         2,
-        b"interface Ethernet2\n ip address 10.0.1.1 255.255.0.255\n",
+        EditFault::NameTaken,
+        b"interface X\n nameif inside\n",
     )?;
-    assert_unbuilt(&rt, 3, b"interface Ethernet2\n nameif dmz\n shutdown\n")?;
-    Ok(())
-}
-
-#[test]
-fn an_interface_after_the_startup_part_is_refused_as_such(rt: HostRuntime) -> Result<(), Fail> {
-    let answer = answer_to(rt.alloc(), b"interface Ethernet2\n mtu 1500\n", false)?;
+    assert_refused(&rt, 3, bad(9), b"interface X\n shutdown\n nameif any\n")?;
+    let late = answer_to(rt.alloc(), b"interface X\n nameif\n", false)?;
     let refusal = EditRefusal::At {
         line: 1,
         fault: EditFault::NotAfterStartup,
     };
-    assert_eq!(rt; answer, Err(refusal));
-    assert_eq!(rt;
-        answer_to(rt.alloc(), b"route inside 0 0 10.0.0.9\n", false)?,
-        Ok(())
-    );
+    assert_eq!(rt; late, Err(refusal));
     Ok(())
 }
 
 #[test]
-fn the_65th_interface_is_not_built(rt: HostRuntime) -> Result<(), Fail> {
-    let mut config = Config::empty(rt.alloc());
-    for n in 0..64u32 {
-        let text = format!(in rt.alloc(); "interface Ethernet{n}\n nameif lan{n}\n")?;
-        let text = text.as_bytes();
-        assert!(rt; text.len() < 100);
-        take(rt.alloc(), &mut config, text)?;
-    }
-    assert_eq!(rt; config.ifaces().len(), 64);
-    assert_eq!(rt; config.interface_of(&name(b"lan63")?), Some(63));
-    let blocks = cut_blocks(rt.alloc(), b"interface Ethernet64\n", 1)?.map_err(|_| "early")?;
-    for block in blocks.as_slice() {
-        assert!(rt; config.step(block, true).is_err());
-    }
-    assert_eq!(rt; config.ifaces().len(), 64);
-    Ok(())
-}
-
-#[test]
-fn a_route_takes_the_place_of_its_equal(rt: HostRuntime) -> Result<(), Fail> {
-    let text = b"route outside 0 0 203.0.113.1\n\
-            route inside 10.1.0.0 255.255.0.0 10.0.0.9 255\n\
-            route outside 0.0.0.0 0 203.0.113.1 20\n\
-            route outside 0 0 203.0.113.7 1\n";
-    let config = configured(rt.alloc(), text)?;
-    let default = RouteLine {
-        ifc: 0,
-        prefix: Prefix::new(Addr(0), 0).ok_or("no network")?,
-        gateway: Addr(0xcb00_7101),
-        distance: 20,
-    };
-    let inner = RouteLine {
-        ifc: 1,
-        prefix: Prefix::new(Addr(0x0a01_0000), 16).ok_or("no network")?,
-        gateway: Addr(0x0a00_0009),
-        distance: 255,
-    };
-    let other = RouteLine {
-        gateway: Addr(0xcb00_7107),
-        distance: 1,
-        ..default
-    };
-    assert_eq!(rt; config.routes(), [default, inner, other].as_slice());
-    Ok(())
-}
-
-#[test]
-fn a_route_line_that_is_not_built_is_told(rt: HostRuntime) -> Result<(), Fail> {
-    assert_unbuilt(&rt, 1, b"route dmz 0 0 10.0.0.9\n")?;
-    assert_unbuilt(&rt, 1, b"route inside 10.1.0.1 255.255.0.0 10.0.0.9\n")?;
-    assert_unbuilt(&rt, 1, b"route inside 10.1.0.0 255.255.0.0\n")?;
-    assert_unbuilt(&rt, 1, b"route inside 0 0 10.0.0.9 0\n")?;
-    assert_unbuilt(&rt, 1, b"route inside 0 0 10.0.0.9 256\n")?;
-    assert_unbuilt(&rt, 1, b"route inside 0 0 10.0.0.9 1 tunneled\n")?;
-    assert_unbuilt(&rt, 2, b"route inside 0 0 10.0.0.9\n metric 1\n")?;
-    assert_unbuilt(&rt, 1, b"no route inside 0 0 10.0.0.9\n")?;
-    Ok(())
-}
-
-#[test]
-fn a_list_keeps_its_lines_in_order(rt: HostRuntime) -> Result<(), Fail> {
-    let text = b"access-list OUT extended permit tcp any host 10.0.0.80 eq 80\n\
-            access-list IN extended permit tcp host 10.0.0.5 any\n\
-            access-list OUT extended permit tcp any any eq 65535\n\
-            access-list OUT extended permit tcp any any eq 65535\n\
-            access-group OUT in interface outside\n\
-            access-group IN in interface inside\n";
-    let config = configured(rt.alloc(), text)?;
-    let web = ListLine {
-        source: AddressRef::Any,
-        dest: AddressRef::Host(Addr(0x0a00_0050)),
-        port: Some(80),
-    };
-    let last = ListLine {
-        source: AddressRef::Any,
-        dest: AddressRef::Any,
-        port: Some(65535),
-    };
-    let from_host = ListLine {
-        source: AddressRef::Host(Addr(0x0a00_0005)),
-        dest: AddressRef::Any,
-        port: None,
-    };
-    let outside = config.inbound_list(0).ok_or("no list")?;
-    assert_eq!(rt; outside.name.bytes(), b"OUT".as_slice());
-    assert_eq!(rt; outside.lines, [web, last, last].as_slice());
-    let inside = config.inbound_list(1).ok_or("no list")?;
-    assert_eq!(rt; inside.name.bytes(), b"IN".as_slice());
-    assert_eq!(rt; inside.lines, [from_host].as_slice());
-    Ok(())
-}
-
-#[test]
-fn a_list_line_that_is_not_built_is_told(rt: HostRuntime) -> Result<(), Fail> {
-    assert_unbuilt(&rt, 1, b"access-list L extended deny tcp any any\n")?;
-    assert_unbuilt(&rt, 1, b"access-list L extended permit udp any any\n")?;
-    assert_unbuilt(&rt, 1, b"access-list L permit tcp any any\n")?;
-    assert_unbuilt(&rt, 1, b"access-list L extended permit tcp any\n")?;
-    assert_unbuilt(
-        &rt,
-        1,
-        b"access-list L extended permit tcp any any eq 65536\n",
-    )?;
-    assert_unbuilt(
-        &rt,
-        1,
-        b"access-list L extended permit tcp any any eq 80 log\n",
-    )?;
-    assert_unbuilt(
-        &rt,
-        1,
-        b"access-list L extended permit tcp 10.0.0.0 255.0.0.0 any\n",
-    )?;
-    assert_unbuilt(
-        &rt,
-        2,
-        b"access-list L extended permit tcp any any\n remark\n",
-    )?;
-    Ok(())
-}
-
-#[test]
-fn a_binding_takes_the_place_of_the_earlier_one(rt: HostRuntime) -> Result<(), Fail> {
-    let text = b"access-list A extended permit tcp any any\n\
-            access-list B extended permit tcp any any eq 22\n\
-            access-group A in interface outside\n\
-            access-group A in interface inside\n\
-            access-group B in interface outside\n";
-    let config = configured(rt.alloc(), text)?;
-    let outside = config.inbound_list(0).ok_or("no list")?;
-    assert_eq!(rt; outside.name.bytes(), b"B".as_slice());
-    let inside = config.inbound_list(1).ok_or("no list")?;
-    assert_eq!(rt; inside.name.bytes(), b"A".as_slice());
-    assert!(rt; config.inbound_list(2).is_none());
-    Ok(())
-}
-
-#[test]
-fn an_access_group_that_is_not_built_is_told(rt: HostRuntime) -> Result<(), Fail> {
-    let list = b"access-list A extended permit tcp any any\n";
-    let text = b"access-list A extended permit tcp any any\naccess-group A in interface dmz\n";
-    assert_unbuilt(&rt, 1, text)?;
-    assert_unbuilt(&rt, 1, b"access-group A in interface inside\n")?;
-    let text = b"access-list A extended permit tcp any any\naccess-group A out interface inside\n";
-    assert_unbuilt(&rt, 1, text)?;
-    let text = b"access-list A extended permit tcp any any\naccess-group A global\n";
-    assert_unbuilt(&rt, 1, text)?;
-    assert_eq!(rt; answer_to(rt.alloc(), list, true)?, Ok(()));
-    Ok(())
-}
-
-#[test]
-fn an_edit_leaves_the_configuration_that_it_starts_from(rt: HostRuntime) -> Result<(), Fail> {
-    let text = b"access-list A extended permit tcp any any\naccess-group A in interface inside\n";
-    let config = configured(rt.alloc(), text)?;
-    let blocks = cut_blocks(
+fn a_list_that_is_defined_again_goes_last(rt: HostRuntime) -> Result<(), Fail> {
+    let config = configured(
         rt.alloc(),
-        b"access-list A extended permit tcp any any eq 22\n",
-        1,
-    )?
-    .map_err(|_| "early")?;
-    for block in blocks.as_slice() {
-        let copied = config.copy()?;
-        assert_eq!(rt; copied.ifaces(), config.ifaces());
-        assert_eq!(rt; copied.inbound_list(1).ok_or("no list")?.lines.len(), 1);
-        let next = config.edit(block, false)?;
-        assert_eq!(rt; config.inbound_list(1).ok_or("no list")?.lines.len(), 1);
-        assert_eq!(rt; next.inbound_list(1).ok_or("no list")?.lines.len(), 2);
-        assert_eq!(rt; next.ifaces(), config.ifaces());
-    }
+        b"access-list M permit ip any any\n\
+            no access-list L permit ip any any\n\
+            access-list L line 7 deny ip any any\n\
+            access-group M in interface inside\n\
+            access-group L global\n",
+    )?;
+    let first = config.list_at(0).ok_or("no list")?;
+    assert_eq!(rt; *first.name(), name(b"M")?);
+    let bound = config.list_on(1, true).ok_or("no list")?;
+    assert_eq!(rt; *bound.name(), name(b"M")?);
+    assert!(rt; config.list_on(1, false).is_none());
+    let global = config.global_list().ok_or("no list")?;
+    assert_eq!(rt; *global.name(), name(b"L")?);
+    assert_eq!(rt; global.len(), 1);
     Ok(())
 }
 
-/// Folds a list of this many lines.
-fn fold_list(alloc: Global, lines: u32) -> Result<Config, Fail> {
-    let mut config = configured(
-        alloc,
-        b"access-list L extended permit tcp any any\naccess-group L in interface inside\n",
+#[test]
+fn a_list_has_a_box_for_each_range_of_its_ports(rt: HostRuntime) -> Result<(), Fail> {
+    let config = configured(
+        rt.alloc(),
+        b"access-list M remark web\n\
+            access-list M deny tcp host 10.0.0.9 any neq 80\n\
+            access-list M permit ip any any6\n\
+            access-list M permit udp any interface inside inactive\n",
     )?;
-    let blocks = cut_blocks(
-        alloc,
-        b"access-list L extended permit tcp any host 10.0.0.80 eq 80\n",
-        1,
-    )?
-    .map_err(|_| "early")?;
-    for block in blocks.as_slice() {
-        for _ in 1..lines {
-            config.step(block, true)?;
-        }
-    }
-    Ok(config)
+    assert_eq!(rt; config.pair_count(), 3);
+    let list = config.list(&name(b"M")?).ok_or("no list")?;
+    let boxes = config.boxes(rt.alloc(), list)?;
+    let ports = PortRange::new(81, 65535).ok_or("no range")?;
+    let last = LineBox {
+        source: Range::only(Addr(0x0a00_0009)),
+        dest: Range::all(),
+        service: Service {
+            proto: Some(6),
+            sport: PortRange::all(),
+            dport: ports,
+            itype: None,
+            icode: None,
+        },
+        line: 2,
+        permit: false,
+    };
+    assert_eq!(rt; boxes.len(), 2);
+    assert_eq!(rt; boxes.as_slice().last(), Some(&last));
+    Ok(())
 }
 
 #[test]
-fn long_lists_are_folded(rt: HostRuntime) -> Result<(), Fail> {
-    let config = fold_list(rt.alloc(), 20_000)?;
-    assert_eq!(rt;
-        config.inbound_list(1).ok_or("no list")?.lines.len(),
-        20_000
-    );
-    let config = fold_list(rt.alloc(), 40_000)?;
-    assert_eq!(rt;
-        config.inbound_list(1).ok_or("no list")?.lines.len(),
-        40_000
-    );
+fn an_edit_leaves_the_configuration_before_it(rt: HostRuntime) -> Result<(), Fail> {
+    let before = configured(rt.alloc(), b"")?;
+    let blocks = cut_blocks(rt.alloc(), b"access-list L line 1 deny ip any any\n", 1)?.map_err(
+        |_| "a line before the first block",
+    )?;
+    let block = blocks.as_slice().first().ok_or("no block")?;
+    let after = before.edit(block, false)?;
+    let old = before.list_at(0).ok_or("no list")?;
+    let new = after.list_at(0).ok_or("no list")?;
+    assert_eq!(rt; old.len(), 1);
+    assert_eq!(rt; new.len(), 2);
+    assert!(rt; after.ifaces().interface_of(&name(b"inside")?).is_some());
+    assert_eq!(rt; after.bindings().len(), 0);
+    assert!(rt; after.global().is_none());
     Ok(())
 }

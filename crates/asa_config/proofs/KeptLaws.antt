@@ -1,0 +1,105 @@
+-- What holds of the parts of a configuration goes on holding after a change of one of them.
+use Rattle.std.proofs.Common.{◌≡◌, ℕ, ◌+◌, ◌≤◌, ◌<◌, Bool, true, false, cond, nat_lt, ◌&&◌, if◌then◌else◌, List, [], ◌∷◌, ◌++◌, length, map, Option, Some, None, is_some, Decides, Result, Ok, Err, OnOk, OnErr, IfOk, refl, sym, ap, subst, ◌∙◌, suc, arith}
+use Rattle.std.specs.List.{AllByRecursion, list_all, find}
+use Rattle.std.specs.Str.{bytes_eq}
+use Rattle.std.proofs.lemmas.Slice.Eq.{bytes_eq-Decides}
+use Rattle.std.proofs.lemmas.Bool.{and_parts, and_from}
+use Rattle.asa_ace.specs.declared.stating.AclLine.{AclLine}
+use Rattle.asa_acl.specs.Lists.{AccessLines, with_line}
+use Rattle.asa_ifaces.specs.Interfaces.{Interfaces}
+use Rattle.asa_boxes.specs.Meanings.{Meanings}
+use Rattle.asa_boxes.specs.Pairs.{line_pairs, list_pairs}
+use Rattle.asa_config.specs.declared.stating.NewLine.{NewLine}
+use Rattle.asa_config.specs.Settings.{has_name, list_among}
+use Rattle.asa_config.specs.Counted.{Counted, counted_among, lists_in, pairs_in, list_of, table_with, has_room}
+use Rattle.asa_config.specs.Knowing.{pairs_of_lists, meanings_in}
+use Rattle.asa_config.specs.Soundness.{AreCounted, IsKept, all_within, all_defined, is_global_defined}
+use Rattle.asa_config.specs.Lists.{with_list, put_in}
+use Rattle.asa_config.specs.Lists as spec
+use Rattle.asa_config.proofs.ConfigLaws.{pairs_counted}
+use Rattle.asa_config.proofs.LineLaws.{lists_put, room_same, counted_put, pairs_put}
+
+-- the same names are there after a list has taken the place of another
+pub there_with : (lists : List AccessLines) (new : AccessLines) (name : List ℕ) → is_some (list_among (with_list lists new) name) ≡ is_some (list_among lists name)
+there_with [] new name = refl
+there_with (l ∷ ls) new name = by (has_name new.name l) (bytes_eq-Decides new.name l.name) (there_with ls new name)
+  where
+    by : (b : Bool) → Decides b (new.name ≡ l.name) → is_some (list_among (with_list ls new) name) ≡ is_some (list_among ls name)
+        → is_some (list_among (cond b (new ∷ ls) (l ∷ with_list ls new)) name) ≡ is_some (list_among (l ∷ ls) name)
+    by true same more = ap (λ n. is_some (cond (bytes_eq name n) (Some new) (list_among ls name))) (same.0 refl) ∙ both (bytes_eq name l.name)
+      where
+        both : (b : Bool) → is_some (cond b (Some new) (list_among ls name)) ≡ is_some (cond b (Some l) (list_among ls name))
+        both true = refl
+        both false = refl
+    by false same more = rest (has_name name l) more
+      where
+        rest : (b : Bool) → is_some (list_among (with_list ls new) name) ≡ is_some (list_among ls name)
+            → is_some (cond b (Some l) (list_among (with_list ls new) name)) ≡ is_some (cond b (Some l) (list_among ls name))
+        rest true more = refl
+        rest false more = more
+
+there_more : (lists : List AccessLines) (new : AccessLines) (name : List ℕ) → is_some (list_among lists name) ≡ true → is_some (list_among (lists ++ new ∷ []) name) ≡ true
+there_more [] new name there = absurd (cc)
+there_more (l ∷ ls) new name there = by (has_name name l) there (λ more. there_more ls new name more)
+  where
+    by : (b : Bool) → is_some (cond b (Some l) (list_among ls name)) ≡ true → (is_some (list_among ls name) ≡ true → is_some (list_among (ls ++ new ∷ []) name) ≡ true)
+        → is_some (cond b (Some l) (list_among (ls ++ new ∷ []) name)) ≡ true
+    by true there more = refl
+    by false there more = more there
+
+there_put : (lists : List AccessLines) (new : NewLine) (o : Option AccessLines) (name : List ℕ) → is_some (list_among lists name) ≡ true → is_some (list_among (put_in lists new o) name) ≡ true
+there_put lists new (Some l) name there = there_with lists (with_line l new.place new.item) name ∙ there
+there_put lists new None name there = there_more lists (list_of new.list new.item) name there
+
+pub list_all-weaker : {X : Type 0} (p q : X → Bool) → ((x : X) → p x ≡ true → q x ≡ true) → (xs : List X) → list_all p xs ≡ true → list_all q xs ≡ true
+list_all-weaker p q weaker [] h = refl
+list_all-weaker p q weaker (x ∷ xs) h =
+    let parts = and_parts (p x) (list_all p xs) h in
+    and_from (q x) (list_all q xs) (weaker x parts.0) (list_all-weaker p q weaker xs parts.1)
+
+-- what is defined stays so
+abbrev pub Keeps : List AccessLines → List AccessLines → Type 0
+Keeps old new = (name : List ℕ) → is_some (list_among old name) ≡ true → is_some (list_among new name) ≡ true
+
+pub kept_lists : (net : Interfaces) (ts us : List Counted) (bound : List ((ℕ × Bool) × List ℕ)) (global : Option (List ℕ)) → IsKept net ts bound global
+    → AreCounted (meanings_in net.ifaces) us → Keeps (lists_in ts) (lists_in us) → IsKept net us bound global
+kept_lists net ts us bound global kept counted keeps = record {
+  counted = counted;
+  within = kept.within;
+  defined = list_all-weaker (λ b. is_some (list_among (lists_in ts) b.1)) (λ b. is_some (list_among (lists_in us) b.1)) (λ b h. keeps b.1 h) bound kept.defined;
+  global_defined = by global kept.global_defined;
+}
+  where
+    by : (g : Option (List ℕ)) → is_global_defined (lists_in ts) g ≡ true → is_global_defined (lists_in us) g ≡ true
+    by None h = refl
+    by (Some name) h = keeps name h
+
+-- after a line has gone in
+pub kept_put : (net : Interfaces) (ts us : List Counted) (bound : List ((ℕ × Bool) × List ℕ)) (global : Option (List ℕ)) (new : NewLine) (n : ℕ) → IsKept net ts bound global
+    → n ≡ line_pairs (meanings_in net.ifaces) new.item → us ≡ table_with ts new n → IsKept net us bound global
+kept_put net ts us bound global new n kept told made =
+    kept_lists net ts us bound global kept (counted_put (meanings_in net.ifaces) ts us new n kept.counted told made)
+    (λ name there. ap (λ ls. is_some (list_among ls name)) (lists_put ts us new n made) ∙ there_put (lists_in ts) new (list_among (lists_in ts) new.list) name there)
+
+pub kept_answer : {E : Type 0} (r : Result (Unit {0}) E) (net : Interfaces) (ts us : List Counted) (bound : List ((ℕ × Bool) × List ℕ)) (global : Option (List ℕ)) (new : NewLine) (n : ℕ)
+    → IsKept net ts bound global → n ≡ line_pairs (meanings_in net.ifaces) new.item → OnOk r (us ≡ table_with ts new n) → OnErr r (us ≡ ts) → IsKept net us bound global
+kept_answer (Ok x) net ts us bound global new n kept told ok err = kept_put net ts us bound global new n kept told ok
+kept_answer (Err e) net ts us bound global new n kept told ok err = subst (λ t. IsKept net t bound global) (sym err) kept
+
+pub lists_answer : {E : Type 0} (r : Result (Unit {0}) E) (ts us : List Counted) (new : NewLine) (n : ℕ) → OnOk r (us ≡ table_with ts new n)
+    → OnOk r (lists_in us ≡ put_in (lists_in ts) new (list_among (lists_in ts) new.list))
+lists_answer (Ok x) ts us new n ok = lists_put ts us new n ok
+lists_answer (Err e) ts us new n ok = tt
+
+-- what follows from an answer
+pub on_ok : {E A B : Type 0} (r : Result (Unit {0}) E) → (A → B) → OnOk r A → OnOk r B
+on_ok (Ok x) f a = f a
+on_ok (Err e) f a = tt
+
+pub on_err : {E A B : Type 0} (r : Result (Unit {0}) E) → (A → B) → OnErr r A → OnErr r B
+on_err (Ok x) f a = tt
+on_err (Err e) f a = f a
+
+pub if_ok : {E X : Type 0} {P Q : X → Type 0} (r : Result X E) → ((x : X) → P x → Q x) → IfOk r P → IfOk r Q
+if_ok (Ok x) f p = f x p
+if_ok (Err e) f p = tt

@@ -1,0 +1,10 @@
+use Rattle.std.proofs.Common.{◌≡◌, IfOk, subst}
+use Rattle.std.specs.List.{sum_by}
+use Rattle.asa_boxes.specs.Pairs.{box_pairs, list_pairs}
+use Rattle.asa_config.specs.Knowing.{meanings_in}
+use Rattle.asa_config.proofs.configuring.Config.boxes.Goals as goal
+
+pub returns-clause-pairs : goal.returns-clause-pairs
+returns-clause-pairs c =
+    subst (λ is. IfOk c.boxes.result (λ bs. sum_by box_pairs bs ≡ list_pairs (meanings_in is) c.args.list.now.lines)) c.scope.ensures
+    (subst (λ ls. IfOk c.boxes.result (λ bs. sum_by box_pairs bs ≡ list_pairs (meanings_in c.scope.result.ifaces.now) ls)) c.lines.ensures.value c.boxes.ensures.pairs)

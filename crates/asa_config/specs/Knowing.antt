@@ -1,0 +1,51 @@
+-- What a configuration knows of the names in a line, and what they stand for.
+use Rattle.std.specs.Prelude.{ℕ, List, [], Option, Some, None, slice_get, sum_by}
+use Rattle.asa_base.specs.Knowing.{Known}
+use Rattle.asa_base.specs.declared.boxing.LineBox.{LineBox}
+use Rattle.asa_text.specs.declared.numbering.Addr.{Addr}
+use Rattle.asa_ifaces.specs.declared.holding.Iface.{Iface}
+use Rattle.asa_ifaces.specs.Interfaces.{interface_of, address_of, named_address}
+use Rattle.asa_acl.specs.Lists.{AccessLines}
+use Rattle.asa_boxes.specs.Meanings.{Meanings}
+use Rattle.asa_boxes.specs.Boxes.{boxes_of}
+use Rattle.asa_boxes.specs.Pairs.{list_pairs}
+use Rattle.asa_config.specs.Settings.{Settings}
+
+-- objects and groups aren't built yet: no name is one
+abbrev pub known_of : Settings → Known
+known_of c = record {
+  kind_of = λ _. None;
+  interface_of = interface_of c.net;
+  port_proto = λ _. None;
+  service_range = λ _. None;
+  address_of = address_of c.net;
+}
+
+-- the own address of an interface that has a name, where there is such an interface
+abbrev pub address_if_any : Option Iface → Option Addr
+address_if_any None = None
+address_if_any (Some i) = named_address i
+
+-- the address of the interface with this number
+abbrev pub address_in : List Iface → ℕ → Option Addr
+address_in ifaces ifc = address_if_any (slice_get ifaces ifc)
+
+-- what the names of list lines stand for where these are the interfaces
+abbrev pub meanings_in : List Iface → Meanings
+meanings_in ifaces = record { members = λ _. []; services = λ _. []; address_of = address_in ifaces }
+
+-- what the names of list lines stand for
+abbrev pub meanings_of : Settings → Meanings
+meanings_of c = meanings_in c.net.ifaces
+
+-- the boxes of a list under a configuration
+abbrev pub boxes_under : Settings → AccessLines → List LineBox
+boxes_under c l = boxes_of (meanings_of c) l.lines
+
+-- the prefix pairs of lists
+abbrev pub pairs_of_lists : Meanings → List AccessLines → ℕ
+pairs_of_lists m lists = sum_by (λ l. list_pairs m l.lines) lists
+
+-- the prefix pairs of all lists of a configuration
+abbrev pub pair_count : Settings → ℕ
+pair_count c = pairs_of_lists (meanings_of c) c.lists

@@ -1,0 +1,284 @@
+//! The access lists of a configuration by name, in order of first definition.
+ghost use Rattle.std.specs.Prelude.{◌≡◌, ℕ, ◌+◌, ◌<◌, ◌≤◌, [], ◌∷◌, ◌++◌, true, IfOk, IfSome, IsSomeAnd, OnOk, OnErr, None, Some, is_some, length, List, take, get_or, slice_get, slice_set, sum};
+ghost use Rattle.std.specs.Option.{option_copied};
+ghost use Rattle.std.specs.Map.{lookup, set_value};
+ghost use Rattle.std.specs.Str.{bytes_eq};
+ghost use Rattle.asa_config.specs.Counted as spec;
+ghost use Rattle.asa_config.specs.Counted.{Counted};
+
+use crate::listing::KeptList;
+use crate::stating::NewLine;
+use asa_acl::{Acl, AclLine};
+use asa_base::Name;
+use indexmap::IndexMap;
+use std::alloc::{AllocError, Global};
+use std::marker::Model;
+
+/// The lists by name, and the number of the prefix pairs of all of them, which is at most 262,144.
+#[derive(Debug, Drop)]
+pub(crate) struct ListTable {
+    lists: IndexMap<Name, KeptList>,
+    pairs: u64,
+    alloc: Global,
+}
+
+impl Model for ListTable {
+    ghost use Rattle.std.specs.Prelude.{List};
+    ghost use Rattle.asa_config.specs.Counted.{Counted, values, IsTable};
+
+    ghost Value = { List Counted };
+
+    ghost view = { λ t. values t.lists.entries };
+
+    ghost invariant = { λ t. IsTable t.lists.entries t.pairs };
+}
+
+/// Puts a line into the list of a map that has this name.
+fn put_into(
+    lists: &mut IndexMap<Name, KeptList>,
+    name: &Name,
+    place: Option<u32>,
+    item: AclLine,
+    pairs: u64,
+) -> Result<(), AllocError>
+    requires counted { IfSome place (λ n. 1 ≤ n) }
+    requires room { IsSomeAnd (lookup (bytes_eq name.now) lists.old.entries) (λ t. length t.list.lines < 65536) }
+    requires few { IfSome (lookup (bytes_eq name.now) lists.old.entries) (λ t. t.pairs + pairs ≤ 262144) }
+    ensures ok { OnOk result (IfSome (lookup (bytes_eq name.now) lists.old.entries) (λ t. lists.new.entries ≡ set_value (bytes_eq name.now) lists.old.entries (spec.line_put t place item pairs))) }
+    ensures err { OnErr result (lists.new.entries ≡ lists.old.entries) }
+{
+    match lists.get_mut(name) {
+        Some(kept) => kept.put(place, item, pairs),
+        None => unreachable!(),
+    }
+}
+
+/// Removes the first line that equals this one from the list of a map that has this name.
+fn take_from(
+    lists: &mut IndexMap<Name, KeptList>,
+    name: &Name,
+    item: &AclLine,
+    pairs: u64,
+) -> Result<(), AllocError>
+    requires { IsSomeAnd (lookup (bytes_eq name.now) lists.old.entries) (λ t. pairs ≤ t.pairs) }
+    ensures ok { OnOk result (IfSome (lookup (bytes_eq name.now) lists.old.entries) (λ t. lists.new.entries ≡ set_value (bytes_eq name.now) lists.old.entries (spec.line_taken t item.now pairs))) }
+    ensures err { OnErr result (lists.new.entries ≡ lists.old.entries) }
+{
+    match lists.get_mut(name) {
+        Some(kept) => kept.take(item, pairs),
+        None => unreachable!(),
+    }
+}
+
+impl ListTable {
+    /// No list; takes no memory.
+    pub(crate) fn new(alloc: Global) -> ListTable
+        ensures { result ≡ [] }
+    {
+        ListTable {
+            lists: IndexMap::new(alloc),
+            pairs: 0,
+            alloc,
+        }
+    }
+
+    /// How many lists there are.
+    pub(crate) fn len(&self) -> usize
+        ensures value { result ≡ length self.now }
+        ensures few { result ≤ 1024 }
+    {
+        self.lists.len()
+    }
+
+    /// The number of the prefix pairs of all lists.
+    pub(crate) fn pairs(&self) -> u64
+        ensures value { result ≡ spec.pairs_in self.now }
+        ensures few { result ≤ 262144 }
+    {
+        self.pairs
+    }
+
+    /// The list with this name.
+    #[tactic(auto, using(crate::proofs::TableLaws::lookup_keyed))]
+    pub(crate) fn find(&self, name: &Name) -> Option<&KeptList>
+        ensures { option_copied result ≡ spec.counted_among self.now name.now }
+    {
+        self.lists.get(name)
+    }
+
+    /// The n-th list, from 0.
+    pub(crate) fn at(&self, n: usize) -> Option<&KeptList>
+        ensures { option_copied result ≡ slice_get self.now n }
+    {
+        match self.lists.get_index(n) {
+            Some((_, list)) => Some(list),
+            None => None,
+        }
+    }
+
+    /// Whether a line may go into the list that has this name, or begin it.
+    pub(crate) fn has_room(&self, name: &Name) -> bool
+        ensures { result ≡ spec.has_room self.now name.now }
+    {
+        match self.find(name) {
+            Some(list) => list.acl().len() < 65536,
+            None => self.lists.len() < 1024,
+        }
+    }
+
+    /// Begins a list with a line.
+    fn begin(&mut self, name: Name, list: KeptList) -> Result<(), AllocError>
+        requires absent { spec.counted_among self.old name ≡ None }
+        requires named { name ≡ list.list.name }
+        requires room { length self.old < 1024 }
+        requires few { spec.pairs_in self.old + list.pairs ≤ 262144 }
+        ensures ok { OnOk result (self.new ≡ self.old ++ list ∷ []) }
+        ensures err { OnErr result (self.new ≡ self.old) }
+    {
+        let pairs = self.pairs + list.pairs();
+        self.lists.insert(name, list)?;
+        self.pairs = pairs;
+        Ok(())
+    }
+
+    /// Puts a line into the list that has this name.
+    fn put_there(
+        &mut self,
+        name: &Name,
+        place: Option<u32>,
+        item: AclLine,
+        pairs: u64,
+    ) -> Result<(), AllocError>
+        requires counted { IfSome place (λ n. 1 ≤ n) }
+        requires room { IsSomeAnd (spec.counted_among self.old name.now) (λ t. length t.list.lines < 65536) }
+        requires few { spec.pairs_in self.old + pairs ≤ 262144 }
+        ensures ok { OnOk result (IfSome (spec.counted_among self.old name.now) (λ t. self.new ≡ spec.with_counted self.old (spec.line_put t place item pairs))) }
+        ensures err { OnErr result (self.new ≡ self.old) }
+    {
+        put_into(&mut self.lists, name, place, item, pairs)?;
+        self.pairs += pairs;
+        Ok(())
+    }
+
+    /// Puts a line into the list that has its name, or begins the list with it. On want of memory all is as it was.
+    #[tactic(auto, unfolding(crate::specs::Counted::table_with))]
+    pub(crate) fn put(&mut self, new: NewLine, pairs: u64) -> Result<(), AllocError>
+        requires counted { IfSome new.place (λ n. 1 ≤ n) }
+        requires room { spec.has_room self.old new.list ≡ true }
+        requires few { spec.pairs_in self.old + pairs ≤ 262144 }
+        ensures ok { OnOk result (self.new ≡ spec.table_with self.old new pairs) }
+        ensures err { OnErr result (self.new ≡ self.old) }
+    {
+        let NewLine { list, place, item } = new;
+        if self.find(&list).is_some() {
+            return self.put_there(&list, place, item, pairs);
+        }
+        let kept = KeptList::of(self.alloc, list.copy(), item, pairs)?;
+        self.begin(list, kept)
+    }
+
+    /// Removes the first line that equals this one, which has so many pairs, from a list that keeps other lines. On want
+    /// of memory all is as it was.
+    #[tactic(auto, unfolding(crate::specs::Counted::table_without))]
+    pub(crate) fn take(&mut self, name: &Name, item: &AclLine, pairs: u64) -> Result<(), AllocError>
+        requires { IsSomeAnd (spec.counted_among self.old name.now) (λ t. pairs ≤ t.pairs) }
+        ensures ok { OnOk result (self.new ≡ spec.table_without self.old name.now item.now pairs) }
+        ensures err { OnErr result (self.new ≡ self.old) }
+    {
+        take_from(&mut self.lists, name, item, pairs)?;
+        self.pairs -= pairs;
+        Ok(())
+    }
+
+    /// Removes a list.
+    pub(crate) fn remove(&mut self, name: &Name)
+        requires { is_some (spec.counted_among self.old name.now) ≡ true }
+        ensures { self.new ≡ spec.without_counted self.old name.now }
+    {
+        let Some(kept) = self.lists.shift_remove(name) else {
+            unreachable!()
+        };
+        self.pairs -= kept.pairs();
+    }
+
+    /// Counts the pairs of each list anew.
+    pub(crate) fn recount(&mut self, counts: &[u128])
+        requires each { length counts.now ≡ length self.old }
+        requires few { sum counts.now ≤ 262144 }
+        ensures { self.new ≡ spec.recounted self.old counts.now }
+    {
+        self.pairs = recount_map(&mut self.lists, counts);
+    }
+
+    /// A copy, which shares the lists.
+    pub(crate) fn copy(&self) -> Result<ListTable, AllocError>
+        ensures { IfOk result (λ t. t ≡ self.now) }
+    {
+        let lists = copy_lists(&self.lists)?;
+        Ok(ListTable {
+            lists,
+            pairs: self.pairs,
+            alloc: self.alloc,
+        })
+    }
+}
+
+/// A copy of a map of lists, which shares them.
+fn copy_lists(lists: &IndexMap<Name, KeptList>) -> Result<IndexMap<Name, KeptList>, AllocError>
+    ensures { IfOk result (λ m. m.entries ≡ lists.now.entries) }
+{
+    lists.clone()
+}
+
+/// Counts the pairs of the i-th list of a map anew.
+fn recount_at(lists: &mut IndexMap<Name, KeptList>, i: usize, pairs: u64)
+    requires { i < length lists.old.entries }
+    ensures len { length lists.new.entries ≡ length lists.old.entries }
+    ensures keyed { spec.Keyed lists.old.entries → spec.Keyed lists.new.entries }
+    ensures lists { IfSome (slice_get (spec.values lists.old.entries) i) (λ k. spec.values lists.new.entries ≡ slice_set (spec.values lists.old.entries) i (record { list = k.list; pairs = pairs })) }
+{
+    match lists.get_index_mut(i) {
+        Some(list) => list.recount(pairs),
+        None => unreachable!(),
+    }
+}
+
+/// The i-th of these numbers.
+fn count_at(counts: &[u128], i: usize) -> u128
+    requires { i < length counts.now }
+    ensures { result ≡ get_or counts.now i result }
+{
+    counts[i]
+}
+
+/// Counts the pairs of the i-th list of a map anew, after those before it, and adds them to theirs.
+fn recount_next(lists: &mut IndexMap<Name, KeptList>, counts: &[u128], i: usize, total: u64) -> u64
+    requires within { i < length counts.now }
+    requires each { length counts.now ≡ length lists.old.entries }
+    requires few { sum counts.now ≤ 262144 }
+    requires told { total ≡ sum (take i counts.now) }
+    ensures total { result ≡ sum (take (i + 1) counts.now) }
+    ensures len { length lists.new.entries ≡ length lists.old.entries }
+    ensures keyed { spec.Keyed lists.old.entries → spec.Keyed lists.new.entries }
+    ensures lists { (ts : List Counted) → spec.values lists.old.entries ≡ spec.recounted ts (take i counts.now) → spec.values lists.new.entries ≡ spec.recounted ts (take (i + 1) counts.now) }
+{
+    let count = count_at(counts, i);
+    let pairs = count as u64;
+    recount_at(lists, i, pairs);
+    total + pairs
+}
+
+/// Counts the pairs of each list of a map anew, and gives the number of all of them.
+fn recount_map(lists: &mut IndexMap<Name, KeptList>, counts: &[u128]) -> u64
+    requires each { length counts.now ≡ length lists.old.entries }
+    requires few { sum counts.now ≤ 262144 }
+    ensures total { result ≡ sum counts.now }
+    ensures lists { spec.values lists.new.entries ≡ spec.recounted (spec.values lists.old.entries) counts.now }
+    ensures keyed { spec.Keyed lists.old.entries → spec.Keyed lists.new.entries }
+{
+    let mut total = 0;
+    for i in 0..counts.len() {
+        total = recount_next(lists, counts, i, total);
+    }
+    total
+}
