@@ -1,26 +1,26 @@
 -- The decision of a flow: the steps in order, up to the first drop.
-use Rattle.std.specs.Prelude.{◌≡◌, ℕ, ◌/◌, ◌%◌, Bool, false, not, ◌&&◌, ◌==◌, List, [], ◌∷◌, ◌++◌, Option, Some, None, Result, Ok, Err, if◌then◌else◌}
+use Rattle.std.specs.Prelude.{◌≡◌, ℕ, ◌+◌, ◌/◌, ◌%◌, Bool, false, not, ◌&&◌, ◌==◌, List, [], ◌∷◌, ◌++◌, Option, Some, None, Result, Ok, Err, if◌then◌else◌}
 use Rattle.std.specs.List.{position}
 use Rattle.asa_text.specs.declared.numbering.Addr.{Addr}
 use Rattle.asa_base.specs.declared.flowing.Packet.{Packet}
 use Rattle.asa_base.specs.declared.flowing.AccessBy.{AccessBy}
 use Rattle.asa_base.specs.declared.flowing.AccessBy.TheVariants as by
-use Rattle.asa_config.specs.declared.holding.Iface.{Iface}
+use Rattle.asa_ifaces.specs.declared.holding.Iface.{Iface}
 use Rattle.asa_config.specs.Settings.{Settings}
-use Rattle.asa_policy.specs.declared.outcomes.AccessVerdict.{AccessVerdict}
-use Rattle.asa_policy.specs.declared.outcomes.AccessVerdict.TheVariants.{Permit, Deny}
-use Rattle.asa_policy.specs.declared.outcomes.SourceMap.TheVariants.{Plain}
-use Rattle.asa_policy.specs.declared.outcomes.Decision.{Decision}
-use Rattle.asa_policy.specs.declared.outcomes.DropReason.{DropReason}
-use Rattle.asa_policy.specs.declared.outcomes.DropReason.TheVariants as drop
-use Rattle.asa_policy.specs.declared.outcomes.Phase.{Phase}
-use Rattle.asa_policy.specs.declared.outcomes.Phase.TheVariants as phase
-use Rattle.asa_policy.specs.declared.outcomes.Detail.{Detail}
-use Rattle.asa_policy.specs.declared.outcomes.Detail.TheVariants as detail
-use Rattle.asa_policy.specs.declared.outcomes.Step.{Step}
-use Rattle.asa_policy.specs.declared.routing.Candidate.{Candidate}
-use Rattle.asa_policy.specs.Access.{level_at, inbound}
-use Rattle.asa_policy.specs.Routing.{route_of}
+use Rattle.asa_access.specs.declared.verdicts.AccessVerdict.{AccessVerdict}
+use Rattle.asa_access.specs.declared.verdicts.AccessVerdict.TheVariants.{Permit, Deny}
+use Rattle.asa_flow.specs.declared.outcomes.SourceMap.TheVariants.{Plain}
+use Rattle.asa_flow.specs.declared.outcomes.Decision.{Decision}
+use Rattle.asa_flow.specs.declared.outcomes.DropReason.{DropReason}
+use Rattle.asa_flow.specs.declared.outcomes.DropReason.TheVariants as drop
+use Rattle.asa_flow.specs.declared.outcomes.Phase.{Phase}
+use Rattle.asa_flow.specs.declared.outcomes.Phase.TheVariants as phase
+use Rattle.asa_flow.specs.declared.outcomes.Detail.{Detail}
+use Rattle.asa_flow.specs.declared.outcomes.Detail.TheVariants as detail
+use Rattle.asa_flow.specs.declared.outcomes.Step.{Step}
+use Rattle.asa_routes.specs.declared.offering.Candidate.{Candidate}
+use Rattle.asa_policy.specs.Access.{level_at, inbound, outbound, inbound_covering, outbound_covering}
+use Rattle.asa_routes.specs.Routing.{route_of}
 
 -- the steps that were taken, and what came of them
 pub record Verdict : Type 0 where
@@ -76,35 +76,44 @@ owns a i = of_parts i.name i.addr
 
 -- TO-THE-BOX: the first interface that has the address
 unfoldable pub to_the_box : Settings → Addr → Option DropReason
-to_the_box c a = of_ifc (position (owns a) c.ifaces)
+to_the_box c a = of_ifc (position (owns a) c.net.ifaces)
   where
     of_ifc : Option ℕ → Option DropReason
     of_ifc None = None
     of_ifc (Some ifc) = Some (drop.ToTheBox ifc)
 
--- SAME-SECURITY: neither within one interface nor between two of equal levels
+-- a reason to drop, unless the configuration permits what it speaks of
+abbrev pub unless : Bool → DropReason → Option DropReason
+unless permitted reason = if permitted then None else Some reason
+
+-- SAME-SECURITY: within one interface, and between two of equal levels, only what is permitted
 unfoldable pub same_security : Settings → ℕ → ℕ → Option DropReason
 same_security c ifc egress =
-    if egress == ifc then Some drop.IntraInterface
-    else (if level_at c ifc == level_at c egress then Some drop.InterInterface else None)
+    if egress == ifc then unless c.net.intra drop.IntraInterface
+    else (if level_at c ifc == level_at c egress then unless c.net.inter drop.InterInterface else None)
 
--- what a flow is given that every step lets through
-abbrev pub decision_of : Packet → Candidate → AccessBy → Decision
-decision_of p k who = record {
+-- what a flow is given that every step lets through: by what it comes in, and by what it goes out
+abbrev pub decision_of : Packet → Candidate → AccessBy → AccessBy → Decision
+decision_of p k way_in way_out = record {
   egress = k.egress;
   dst = p.dst;
   dport = p.dport;
   source = Plain;
   unnat = None;
   route = k.route;
-  inbound = who;
-  outbound = by.NoList;
+  inbound = way_in;
+  outbound = way_out;
 }
 
--- the steps NAT, REVERSE-PATH and ACCESS-LIST-OUT, which let everything through while there is no NAT and no outbound list
-unfoldable pub through : Packet → Candidate → AccessBy → Verdict
-through p k who = noted phase.Nat (detail.Place None) (noted phase.ReversePath (detail.Pair None None)
-    (noted phase.AccessListOut (detail.By by.NoList) (record { steps = []; outcome = Ok (decision_of p k who) })))
+-- ACCESS-LIST-OUT, the last step
+unfoldable pub let_out : Packet → Candidate → AccessBy → AccessVerdict → Verdict
+let_out p k way_in (Permit who) = noted phase.AccessListOut (detail.By who) (record { steps = []; outcome = Ok (decision_of p k way_in who) })
+let_out p k way_in (Deny who) = stopped phase.AccessListOut (drop.AclOut who)
+
+-- the steps NAT and REVERSE-PATH, which let everything through while there is no NAT, and the step after them
+unfoldable pub through : Settings → Packet → Candidate → AccessBy → Verdict
+through c p k way_in = noted phase.Nat (detail.Place None) (noted phase.ReversePath (detail.Pair None None)
+    (let_out p k way_in (outbound c p k.egress)))
 
 -- why the access rules drop a packet
 abbrev pub denied : AccessBy → DropReason
@@ -112,20 +121,30 @@ denied by.Level = drop.Level
 denied who = drop.AclIn who
 
 -- ACCESS-LIST-IN and the steps after it
-unfoldable pub listed : Packet → Candidate → AccessVerdict → Verdict
-listed p k (Permit who) = noted phase.AccessListIn (detail.By who) (through p k who)
-listed p k (Deny who) = stopped phase.AccessListIn (denied who)
+unfoldable pub listed : Settings → Packet → Candidate → AccessVerdict → Verdict
+listed c p k (Permit who) = noted phase.AccessListIn (detail.By who) (through c p k who)
+listed c p k (Deny who) = stopped phase.AccessListIn (denied who)
 
 -- ROUTE-LOOKUP and the steps after it
 unfoldable pub routed : Settings → Packet → Option Candidate → Verdict
 routed c p None = stopped phase.RouteLookup drop.NoRoute
 routed c p (Some k) = noted phase.RouteLookup (detail.Routed k.route k.egress)
-    (checked phase.SameSecurity (same_security c p.ifc k.egress) (listed p k (inbound c p k.egress)))
+    (checked phase.SameSecurity (same_security c p.ifc k.egress) (listed c p k (inbound c p k.egress)))
 
 -- UN-NAT, which maps no destination while there is no NAT, and the steps after it
 unfoldable pub aimed : Settings → Packet → Verdict
-aimed c p = noted phase.UnNat (detail.Place None) (checked phase.ToTheBox (to_the_box c p.dst) (routed c p (route_of c p.dst)))
+aimed c p = noted phase.UnNat (detail.Place None) (checked phase.ToTheBox (to_the_box c p.dst) (routed c p (route_of c.net p.dst)))
 
 -- the steps from STATE on, and the decision or the drop
 unfoldable pub decide : Settings → Packet → Verdict
 decide c p = checked phase.State (not_syn p) (aimed c p)
+
+-- how many prefix pairs of the lists that a decision asks cover the packet's addresses, by the route
+abbrev pub asked_covering : Settings → Packet → Option Candidate → ℕ
+asked_covering c p None = inbound_covering c p
+asked_covering c p (Some k) = inbound_covering c p + outbound_covering c p k.egress
+
+-- how many sealed values a decision reads at most: 33 nodes of the routes, 3 times 1,122 of the lists, and the entries
+-- that cover the packet
+unfoldable pub most_read : Settings → Packet → ℕ
+most_read c p = 3399 + asked_covering c p (route_of c.net p.dst)

@@ -1,3 +1,4 @@
 pub mod Access
-pub mod Routing
+pub mod Gathering
 pub mod Deciding
+pub mod Compiled

@@ -1,18 +1,19 @@
 //! The decision of a packet, step by step up to the first drop.
 ghost use Rattle.std.specs.Prelude.{◌≡◌, ◌++◌, ◌+◌, ◌≤◌, ◌<◌, ◌∷◌, [], None, Some, Ok, Err, IfOk, IfErr, IfSome, IsTrue, length, position};
 ghost use Rattle.arrayvec.specs.ArrayVec.{array_vec_len};
-ghost use Rattle.asa_config.specs.Settings.{is_named};
-ghost use Rattle.asa_policy.specs.Routing.{route_of};
+ghost use Rattle.asa_ifaces.specs.Interfaces.{is_named};
+ghost use Rattle.asa_routes.specs.Routing.{route_of};
+ghost use Rattle.asa_policy.specs.Access.{outbound_covering};
 ghost use Rattle.asa_policy.specs.Deciding as spec;
 
-use crate::admitting::{inbound, level_at};
+use crate::admitting::level_at;
 use crate::compiling::Policy;
-use crate::outcomes::{
-    AccessVerdict, Decision, Detail, DropReason, Phase, SourceMap, Step, Trail, copy_of,
-};
-use crate::routing::{Candidate, best_to};
+use asa_access::AccessVerdict;
 use asa_base::{AccessBy, Addr, Counter, Packet};
-use asa_config::{Config, Iface};
+use asa_config::Config;
+use asa_flow::{Decision, Detail, DropReason, Phase, SourceMap, Step, Trail, copy_of};
+use asa_ifaces::Iface;
+use asa_routes::Candidate;
 
 /// A trail that a decision can begin with: the step FLOW-LOOKUP, which found no connection.
 pub fn begun_trail() -> Trail
@@ -67,10 +68,17 @@ fn first_owner(ifaces: &[Iface], address: Addr) -> Option<usize>
 fn to_the_box(config: &Config, address: Addr) -> Option<DropReason>
     ensures { result ≡ spec.to_the_box config.now address }
 {
-    match first_owner(config.ifaces(), address) {
+    match first_owner(config.ifaces().ifaces(), address) {
         Some(ifc) => Some(DropReason::ToTheBox { ifc: ifc as u8 }),
         None => None,
     }
+}
+
+/// The reason, unless what it speaks of is permitted.
+fn unless(permitted: bool, reason: DropReason) -> Option<DropReason>
+    ensures { result ≡ spec.unless permitted reason }
+{
+    if permitted { None } else { Some(reason) }
 }
 
 /// Why a packet may not go from this interface to the egress.
@@ -78,18 +86,19 @@ fn to_the_box(config: &Config, address: Addr) -> Option<DropReason>
 fn same_security(config: &Config, ifc: u8, egress: u8) -> Option<DropReason>
     ensures { result ≡ spec.same_security config.now ifc egress }
 {
+    let (inter, intra) = config.ifaces().permits();
     if egress == ifc {
-        Some(DropReason::IntraInterface)
+        unless(intra, DropReason::IntraInterface)
     } else if level_at(config, ifc) == level_at(config, egress) {
-        Some(DropReason::InterInterface)
+        unless(inter, DropReason::InterInterface)
     } else {
         None
     }
 }
 
 /// What a flow is given that every step lets through.
-fn decision_of(p: &Packet, way: &Candidate, who: AccessBy) -> Decision
-    ensures { result ≡ spec.decision_of p.now way.now who }
+fn decision_of(p: &Packet, way: &Candidate, way_in: AccessBy, way_out: AccessBy) -> Decision
+    ensures { result ≡ spec.decision_of p.now way.now way_in way_out }
 {
     Decision {
         egress: way.egress,
@@ -98,8 +107,8 @@ fn decision_of(p: &Packet, way: &Candidate, who: AccessBy) -> Decision
         source: SourceMap::Plain,
         unnat: None,
         route: way.route,
-        inbound: who,
-        outbound: AccessBy::NoList,
+        inbound: way_in,
+        outbound: way_out,
     }
 }
 
@@ -146,89 +155,115 @@ fn check(trail: &mut Trail, phase: Phase, reason: Option<DropReason>) -> Result<
     }
 }
 
-/// The steps NAT, REVERSE-PATH and ACCESS-LIST-OUT, and the decision.
-#[tactic(auto, unfolding(crate::specs::Deciding::through))]
-fn through(
+/// ACCESS-LIST-OUT, and the decision.
+#[tactic(auto, unfolding(crate::specs::Deciding::let_out))]
+fn let_out(
     p: &Packet,
     way: &Candidate,
-    who: AccessBy,
-    trail: &mut Trail,
-) -> Result<Decision, DropReason>
-    requires { array_vec_len trail.old ≤ 7 }
-    ensures { spec.Takes (spec.through p.now way.now who) result trail.old.items trail.new.items }
-{
-    note(trail, Phase::Nat, Detail::Place(None));
-    let pair = Detail::Pair {
-        unnat: None,
-        reply: None,
-    };
-    note(trail, Phase::ReversePath, pair);
-    note(trail, Phase::AccessListOut, Detail::By(AccessBy::NoList));
-    Ok(decision_of(p, way, who))
-}
-
-/// ACCESS-LIST-IN and the steps after it.
-#[tactic(auto, unfolding(crate::specs::Deciding::listed))]
-fn listed(
-    p: &Packet,
-    way: &Candidate,
+    way_in: AccessBy,
     verdict: AccessVerdict,
     trail: &mut Trail,
 ) -> Result<Decision, DropReason>
-    requires { array_vec_len trail.old ≤ 6 }
-    ensures { spec.Takes (spec.listed p.now way.now verdict) result trail.old.items trail.new.items }
+    requires { array_vec_len trail.old ≤ 9 }
+    ensures { spec.Takes (spec.let_out p.now way.now way_in verdict) result trail.old.items trail.new.items }
 {
     match verdict {
         AccessVerdict::Permit(who) => {
-            note(trail, Phase::AccessListIn, Detail::By(copy_of(&who)));
-            through(p, way, who, trail)
+            note(trail, Phase::AccessListOut, Detail::By(copy_of(&who)));
+            Ok(decision_of(p, way, way_in, who))
         }
-        AccessVerdict::Deny(who) => Err(stop(trail, Phase::AccessListIn, denied(who))),
+        AccessVerdict::Deny(by) => {
+            Err(stop(trail, Phase::AccessListOut, DropReason::AclOut { by }))
+        }
     }
-}
-
-/// ROUTE-LOOKUP and the steps after it.
-#[tactic(auto, unfolding(crate::specs::Deciding::routed))]
-fn routed(
-    config: &Config,
-    p: &Packet,
-    way: Option<Candidate>,
-    trail: &mut Trail,
-) -> Result<Decision, DropReason>
-    requires { array_vec_len trail.old ≤ 4 }
-    ensures { spec.Takes (spec.routed config.now p.now way) result trail.old.items trail.new.items }
-{
-    let Some(way) = way else {
-        return Err(stop(trail, Phase::RouteLookup, DropReason::NoRoute));
-    };
-    let detail = Detail::Routed {
-        route: way.route,
-        egress: way.egress,
-    };
-    note(trail, Phase::RouteLookup, detail);
-    let reason = same_security(config, p.ifc, way.egress);
-    check(trail, Phase::SameSecurity, reason)?;
-    listed(p, &way, inbound(config, p, way.egress), trail)
 }
 
 impl Policy {
-    /// The route of an address.
-    #[tactic(auto, unfolding(crate::specs::Routing::route_of))]
-    fn route_of(&self, address: Addr) -> Option<Candidate>
-        ensures { result ≡ route_of self.now address }
+    /// The steps NAT and REVERSE-PATH, and the step after them.
+    #[tactic(auto, unfolding(crate::specs::Deciding::through))]
+    fn through(
+        &self,
+        p: &Packet,
+        way: &Candidate,
+        way_in: AccessBy,
+        trail: &mut Trail,
+        c: &mut Counter,
+    ) -> Result<Decision, DropReason>
+        requires { array_vec_len trail.old ≤ 7 }
+        ensures taken { spec.Takes (spec.through self.now p.now way.now way_in) result trail.old.items trail.new.items }
+        ensures reads { c.new ≤ c.old + 1122 + outbound_covering self.now p.now way.now.egress }
     {
-        best_to(self.candidates(), address)
+        note(trail, Phase::Nat, Detail::Place(None));
+        let pair = Detail::Pair {
+            unnat: None,
+            reply: None,
+        };
+        note(trail, Phase::ReversePath, pair);
+        let verdict = self.outbound(p, way.egress, c);
+        let_out(p, way, way_in, verdict, trail)
+    }
+
+    /// ACCESS-LIST-IN and the steps after it.
+    #[tactic(auto, unfolding(crate::specs::Deciding::listed))]
+    fn listed(
+        &self,
+        p: &Packet,
+        way: &Candidate,
+        verdict: AccessVerdict,
+        trail: &mut Trail,
+        c: &mut Counter,
+    ) -> Result<Decision, DropReason>
+        requires { array_vec_len trail.old ≤ 6 }
+        ensures taken { spec.Takes (spec.listed self.now p.now way.now verdict) result trail.old.items trail.new.items }
+        ensures reads { c.new ≤ c.old + 1122 + outbound_covering self.now p.now way.now.egress }
+    {
+        match verdict {
+            AccessVerdict::Permit(who) => {
+                note(trail, Phase::AccessListIn, Detail::By(copy_of(&who)));
+                self.through(p, way, who, trail, c)
+            }
+            AccessVerdict::Deny(who) => Err(stop(trail, Phase::AccessListIn, denied(who))),
+        }
+    }
+
+    /// ROUTE-LOOKUP and the steps after it.
+    #[tactic(auto, unfolding(crate::specs::Deciding::routed))]
+    fn routed(
+        &self,
+        p: &Packet,
+        way: Option<Candidate>,
+        trail: &mut Trail,
+        c: &mut Counter,
+    ) -> Result<Decision, DropReason>
+        requires { array_vec_len trail.old ≤ 4 }
+        ensures taken { spec.Takes (spec.routed self.now p.now way) result trail.old.items trail.new.items }
+        ensures reads { c.new ≤ c.old + 3366 + spec.asked_covering self.now p.now way }
+    {
+        let Some(way) = way else {
+            return Err(stop(trail, Phase::RouteLookup, DropReason::NoRoute));
+        };
+        let detail = Detail::Routed {
+            route: way.route,
+            egress: way.egress,
+        };
+        note(trail, Phase::RouteLookup, detail);
+        let reason = same_security(self.config(), p.ifc, way.egress);
+        check(trail, Phase::SameSecurity, reason)?;
+        let verdict = self.inbound(p, way.egress, c);
+        self.listed(p, &way, verdict, trail, c)
     }
 
     /// UN-NAT and the steps after it.
-    #[tactic(auto, unfolding(crate::specs::Deciding::aimed))]
-    fn aimed(&self, p: &Packet, trail: &mut Trail) -> Result<Decision, DropReason>
+    #[tactic(auto, unfolding(crate::specs::Deciding::aimed, crate::specs::Deciding::most_read))]
+    fn aimed(&self, p: &Packet, trail: &mut Trail, c: &mut Counter) -> Result<Decision, DropReason>
         requires { array_vec_len trail.old ≤ 2 }
-        ensures { spec.Takes (spec.aimed self.now p.now) result trail.old.items trail.new.items }
+        ensures taken { spec.Takes (spec.aimed self.now p.now) result trail.old.items trail.new.items }
+        ensures reads { c.new ≤ c.old + spec.most_read self.now p.now }
     {
         note(trail, Phase::UnNat, Detail::Place(None));
         check(trail, Phase::ToTheBox, to_the_box(self.config(), p.dst))?;
-        routed(self.config(), p, self.route_of(p.dst), trail)
+        let way = self.route_of(p.dst, c);
+        self.routed(p, way, trail, c)
     }
 
     /// Decides a packet that belongs to no live connection, and adds the steps from STATE on to the trail, up to the
@@ -240,13 +275,13 @@ impl Policy {
         trail: &mut Trail,
         c: &mut Counter,
     ) -> Result<Decision, DropReason>
-        requires named { IsTrue (is_named self.now p.now.ifc) }
+        requires named { IsTrue (is_named self.now.net p.now.ifc) }
         requires begun { spec.IsBegun trail.old.items }
         ensures decided { result ≡ (spec.decide self.now p.now).outcome }
         ensures steps { trail.new.items ≡ trail.old.items ++ (spec.decide self.now p.now).steps }
-        ensures counted { c.new ≡ c.old }
+        ensures reads { c.new ≤ c.old + spec.most_read self.now p.now }
     {
         check(trail, Phase::State, not_syn(p))?;
-        self.aimed(p, trail)
+        self.aimed(p, trail, c)
     }
 }

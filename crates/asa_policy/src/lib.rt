@@ -4,14 +4,11 @@
 mod admitting;
 mod compiling;
 mod deciding;
-mod outcomes;
-mod routing;
-
-pub use compiling::{Policy, compile};
-pub use deciding::begun_trail;
-pub use outcomes::{
-    AccessVerdict, Decision, Detail, DropReason, Phase, Route, SourceMap, Step, Trail,
-};
-
+mod gathering;
 #[cfg(test)]
 mod tests;
+
+pub use asa_access::AccessVerdict;
+pub use asa_flow::{Decision, Detail, DropReason, Phase, Route, SourceMap, Step, Trail};
+pub use compiling::{Policy, compile};
+pub use deciding::begun_trail;
