@@ -3,8 +3,8 @@ use Rattle.std.proofs.Common.{◌≡◌, ℕ, ◌+◌, ◌<◌, ◌≤◌, true,
 use Rattle.std.specs.List.{flat_map}
 use Rattle.std.proofs.lemmas.List.Elements.{All-push, All-nil, All-cons}
 use Rattle.asa_base.specs.declared.flowing.Packet.{Packet}
-use Rattle.asa_policy.specs.declared.outcomes.Decision.{Decision}
-use Rattle.asa_policy.specs.declared.outcomes.DropReason.{DropReason}
+use Rattle.asa_flow.specs.declared.outcomes.Decision.{Decision}
+use Rattle.asa_flow.specs.declared.outcomes.DropReason.{DropReason}
 use Rattle.asa_policy.specs.Deciding.{decide}
 use Rattle.asa_session.specs.declared.scripting.Command.{Command}
 use Rattle.asa_session.specs.declared.scripting.Command.TheVariants as command

@@ -6,8 +6,8 @@ use Rattle.asa_base.specs.declared.flowing.Packet.{Packet}
 use Rattle.asa_base.specs.declared.flowing.Header.{Header}
 use Rattle.asa_config.specs.Settings.{Settings}
 use Rattle.asa_config.specs.Steps.{config_of}
-use Rattle.asa_policy.specs.declared.outcomes.Decision.{Decision}
-use Rattle.asa_policy.specs.declared.outcomes.DropReason.{DropReason}
+use Rattle.asa_flow.specs.declared.outcomes.Decision.{Decision}
+use Rattle.asa_flow.specs.declared.outcomes.DropReason.{DropReason}
 use Rattle.asa_policy.specs.Deciding.{decide}
 use Rattle.asa_session.specs.declared.scripting.Command.{Command}
 use Rattle.asa_session.specs.declared.scripting.Command.TheVariants as command

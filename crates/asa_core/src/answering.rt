@@ -7,7 +7,8 @@ use crate::history::{Answer, Conn, Entry, Load};
 use crate::holding::State;
 use crate::keys::{key_of, reply_key};
 use asa_base::{Counter, Header, Packet};
-use asa_policy::{Decision, DropReason, begun_trail};
+use asa_flow::{Decision, DropReason};
+use asa_policy::begun_trail;
 use asa_session::Command;
 
 /// The header with which a packet leaves.

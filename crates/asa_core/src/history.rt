@@ -1,6 +1,6 @@
 //! What a run is told in: entries that change the state, answers to commands, and a report for each phase.
 use asa_base::{Header, Key};
-use asa_policy::{Decision, DropReason};
+use asa_flow::{Decision, DropReason};
 use asa_text::Items;
 
 /// A live connection.

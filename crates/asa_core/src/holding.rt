@@ -1,5 +1,5 @@
 //! The state of the machine, and what an entry changes in it.
-ghost use Rattle.std.specs.Prelude.{◌≡◌, ◌<◌, length, IfOk};
+ghost use Rattle.std.specs.Prelude.{◌≡◌, ◌<◌, ◌≤◌, length, All, AllPairs, IfOk};
 ghost use Rattle.asa_config.specs.Steps.{config_of};
 ghost use Rattle.asa_core.specs.Machine.{ruling, init, may_open, with_conn, applied};
 
@@ -91,7 +91,10 @@ impl<'a> State<'a> {
 
     /// The live connections by rising id.
     pub fn conns(&self) -> &[Conn]
-        ensures { result.now ≡ self.now.conns }
+        ensures value { result.now ≡ self.now.conns }
+        ensures rising { AllPairs (λ a b. a.id < b.id) result.now }
+        ensures below { All (λ c. c.id < self.now.next) result.now }
+        ensures few { length result.now ≤ self.now.capacity }
     {
         self.conns.as_slice()
     }
@@ -105,7 +108,8 @@ impl<'a> State<'a> {
 
     /// Adds a connection.
     fn open(&mut self, conn: Conn)
-        requires { length self.old.conns < self.old.capacity }
+        requires room { length self.old.conns < self.old.capacity }
+        requires next { conn.id ≡ self.old.next }
         ensures { self.new ≡ with_conn self.old conn }
     {
         self.conns.push_reserved(conn);

@@ -3,7 +3,8 @@ ghost use Rattle.std.specs.Prelude.{◌≡◌};
 
 use crate::{Answer, Entry, Load, State, apply, change, header_of, key_of, reply_key, run_serial};
 use asa_base::{AccessBy, Addr, Header, Key, Name, Packet};
-use asa_policy::{Decision, DropReason, Route, SourceMap, compile};
+use asa_flow::{Decision, DropReason, Route, SourceMap};
+use asa_policy::compile;
 use asa_session::{Command, read_session};
 use std::test::Fail;
 
@@ -247,4 +248,29 @@ fn an_echo_is_answered_by_an_echo_reply(rt: HostRuntime) {
     assert_eq!(rt; back, expected);
     assert_eq!(rt; key_of(&icmp(0, 0, 7)).kind, 2);
     assert_eq!(rt; key_of(&icmp(3, 0, 0)).kind, 3);
+}
+
+#[test]
+fn a_reply_leaves_the_state_and_a_change_repeats_it(rt: HostRuntime) -> Result<(), Fail> {
+    let session = read_session(rt.alloc(), THREE_PACKETS)?;
+    let policy = compile(rt.alloc(), session.config.get())?;
+    assert!(rt; policy.is_named(0));
+    let command = Command::Packet(first_packet());
+    let state = State::new(rt.alloc(), &session, policy, 1)?;
+    let answer = crate::reply(&state, &command);
+    let name = Name::new(b"OUT").ok_or("OUT is a name")?;
+    let wanted = Answer::Opened {
+        id: 1,
+        egress: 1,
+        out: FIRST_HEADER,
+        policy: 5,
+        decision: first_decision(name),
+    };
+    assert_eq!(rt; answer, wanted);
+    assert_eq!(rt;
+        (state.published(), state.clock(), state.next_id()),
+        (5, 0, 1)
+    );
+    assert!(rt; change(&state, 1, 1, &command).is_some());
+    Ok(())
 }

@@ -1,5 +1,5 @@
 -- What a run of the program does, by the status that it ends with.
-use Rattle.std.specs.Prelude.{◌≡◌, ℕ, Bool, false, ◌≤◌, nat_lt, List, [], ◌∷◌, length, take, codes, Option, Some, IfSome, Result, Ok, Err, IsTrue, IsFalse, if◌then◌else◌}
+use Rattle.std.specs.Prelude.{◌≡◌, ℕ, Bool, true, false, ◌≤◌, nat_lt, List, [], ◌∷◌, length, take, codes, Option, Some, IfSome, Result, Ok, Err, IsTrue, IsFalse, if◌then◌else◌}
 use Rattle.std.specs.Str.{bytes_eq}
 use Rattle.std.specs.Io.KnownBytes.{Appends}
 use Rattle.asa_io.specs.Faults.{Rose}
@@ -69,6 +69,12 @@ Judges (Ok s) r = r ≡ Ok s
 Judges (Err (status.Refused line why)) r = r ≡ Err (record { line = line; reason = why })
 Judges (Err status.Memory) r = Unit {0}
 Judges (Err _) r = ⊥
+
+-- a run that ends so has asked its output for something
+abbrev pub has_written : Status → Bool
+has_written status.Done = true
+has_written (status.WriteFault _) = true
+has_written _ = false
 
 -- the input and the output of a run: the bytes still to come and the bytes given, where they are told, and the
 -- numbers of faults

@@ -3,6 +3,8 @@
 
 #[cfg(test)]
 mod examples;
+#[cfg(test)]
+mod policies;
 mod running;
 mod statuses;
 #[cfg(test)]

@@ -1,8 +1,9 @@
 //! A run: the words are read first, then the input, then the session; all of it is run before the first byte is written.
-ghost use Rattle.std.specs.Prelude.{◌≡◌, ◌≤◌, map, length, IfOk};
+ghost use Rattle.std.specs.Prelude.{◌≡◌, ◌≤◌, map, length, IfOk, IfErr, IsFalse};
 ghost use Rattle.std.specs.String.{string_bytes};
 ghost use Rattle.asa_session.specs.Readiness.{IsReady};
-ghost use Rattle.asa_main.specs.Outcome.{Answers, Judges, Says, Writes, is_form, judged, report_of, session_limit};
+ghost use Rattle.asa_main.specs.declared.statuses.Status.TheVariants as status;
+ghost use Rattle.asa_main.specs.Outcome.{Answers, Judges, Says, Writes, has_written, is_form, judged, report_of, session_limit};
 
 use super::statuses::{Reason, Status};
 use asa_core::run_serial;
@@ -32,6 +33,7 @@ fn judge(alloc: Global, bytes: &[u8]) -> Result<Session, Status>
     requires { length bytes.now ≤ session_limit }
     ensures judged { Judges result (judged bytes.now) }
     ensures ready { IfOk result IsReady }
+    ensures unwritten { IfErr result (λ s. IsFalse (has_written s)) }
 {
     match read_session(alloc, bytes) {
         Ok(session) => Ok(session),
@@ -57,7 +59,10 @@ fn report(alloc: Global, session: &Session) -> Result<Vec<u8>, AllocError>
 // Writes the report of a session.
 fn write_run<K: Sink>(alloc: Global, session: &Session, output: &mut K) -> Status
     requires { IsReady session.now }
-    ensures { Writes (report_of session.now) (K.given output.old) (K.given output.new) (K.faults output.old) (K.faults output.new) result }
+    ensures writes { Writes (report_of session.now) (K.given output.old) (K.given output.new) (K.faults output.old) (K.faults output.new) result }
+    ensures untouched { IsFalse (has_written result) → output.new ≡ output.old }
+    ensures flushed { result ≡ status.Done → K.is_flushed output.new }
+    ensures later { K.faults output.old ≤ K.faults output.new }
 {
     let Ok(text) = report(alloc, session) else {
         return Status::Memory;
@@ -72,7 +77,10 @@ fn write_run<K: Sink>(alloc: Global, session: &Session, output: &mut K) -> Statu
 #[tactic(auto, using(crate::proofs::RunLaws::written_run, crate::proofs::RunLaws::refused_run))]
 fn answer<K: Sink>(alloc: Global, bytes: &[u8], output: &mut K) -> Status
     requires { length bytes.now ≤ session_limit }
-    ensures { Answers bytes.now (K.given output.old) (K.given output.new) (K.faults output.old) (K.faults output.new) result }
+    ensures answers { Answers bytes.now (K.given output.old) (K.given output.new) (K.faults output.old) (K.faults output.new) result }
+    ensures untouched { IsFalse (has_written result) → output.new ≡ output.old }
+    ensures flushed { result ≡ status.Done → K.is_flushed output.new }
+    ensures later { K.faults output.old ≤ K.faults output.new }
 {
     match judge(alloc, bytes) {
         Ok(session) => write_run(alloc, &session, output),
@@ -96,6 +104,10 @@ pub fn run<S: Source, K: Sink, G: Gate, R: Threads + Wait + Sync>(
         (record { left = S.left input.old; given = K.given output.old; read_faults = S.faults input.old; write_faults = K.faults output.old })
         (record { left = S.left input.new; given = K.given output.new; read_faults = S.faults input.new; write_faults = K.faults output.new })
         result }
+    ensures untouched { IsFalse (has_written result) → output.new ≡ output.old }
+    ensures unread { result ≡ status.Usage → input.new ≡ input.old }
+    ensures flushed { result ≡ status.Done → K.is_flushed output.new }
+    ensures later { (S.faults input.old ≤ S.faults input.new) × (K.faults output.old ≤ K.faults output.new) }
 {
     if !is_run(words) {
         return Status::Usage;

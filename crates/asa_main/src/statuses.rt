@@ -1,5 +1,5 @@
 //! How a run ended: its status, the program's exit status, and the line on standard error.
-ghost use Rattle.std.specs.Prelude.{◌≡◌, ◌≤◌, take, IfErr, OnOk};
+ghost use Rattle.std.specs.Prelude.{◌≡◌, ◌≤◌, length, take, IfErr, OnOk};
 ghost use Rattle.std.specs.Io.KnownBytes.{Appends};
 ghost use Rattle.asa_io.specs.Faults.{HasCause};
 ghost use Rattle.asa_io.specs.Whole.{written_of};
@@ -63,6 +63,7 @@ fn text_of(reason: &Reason) -> ReasonText
 #[tactic(auto, unfolding(crate::specs::Statuses::status_text))]
 pub fn write_status<K: Sink>(status: &Status, sink: &mut K) -> Result<(), WriteError>
     ensures all { OnOk result (Appends (K.given sink.old) (K.given sink.new) (status_text status.now)) }
+    ensures bound { IfErr result (λ e. written_of e ≤ length (status_text status.now)) }
     ensures front { IfErr result (λ e. Appends (K.given sink.old) (K.given sink.new) (take (written_of e) (status_text status.now))) }
     ensures cause { HasCause result (K.faults sink.old) (K.faults sink.new) }
     ensures later { K.faults sink.old ≤ K.faults sink.new }

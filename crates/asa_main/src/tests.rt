@@ -9,7 +9,7 @@ use std::sync::Wait;
 use std::test::Fail;
 use std::thread::Threads;
 
-const BASE: &[u8] = b"interface GigabitEthernet0/0
+pub const BASE: &[u8] = b"interface GigabitEthernet0/0
  nameif outside
  security-level 0
  ip address 203.0.113.2 255.255.255.0
@@ -20,7 +20,7 @@ interface GigabitEthernet0/1
 route outside 0.0.0.0 0.0.0.0 203.0.113.1 1
 ";
 
-const WEB_LIST: &[u8] = b"access-list OUT extended permit tcp any host 10.0.0.80 eq 80
+pub const WEB_LIST: &[u8] = b"access-list OUT extended permit tcp any host 10.0.0.80 eq 80
 access-group OUT in interface outside
 ";
 
@@ -43,14 +43,14 @@ done 2
 
 // What a run does: how it ends, and what it writes.
 #[derive(Drop)]
-struct Outcome {
-    status: Status,
-    written: Vec<u8>,
+pub struct Outcome {
+    pub status: Status,
+    pub written: Vec<u8>,
 }
 
 // A run of the words over an input, whose read with this number fails (0: none), and an output of this room, whose
 // call with this number fails.
-fn ran<R: Threads + Wait + Sync>(
+pub fn ran<R: Threads + Wait + Sync>(
     rt: &R,
     alloc: Global,
     words: &[&str],
@@ -181,7 +181,11 @@ fn a_refused_startup_block_refuses_the_session(rt: HostRuntime) -> Result<(), Fa
         &rt,
         rt.alloc(),
         &["run"],
-        &[BASE, b"object network A\n host 10.0.0.9\n", THREE_PACKETS],
+        &[
+            BASE,
+            b"access-list A permit ip any host 10.0.0.300\n",
+            THREE_PACKETS,
+        ],
         (0, 0),
         100,
     )?;
@@ -190,7 +194,7 @@ fn a_refused_startup_block_refuses_the_session(rt: HostRuntime) -> Result<(), Fa
             r.status,
             Status::Refused {
                 line: 10,
-                reason: Reason::Session(SessionKind::Startup(EditFault::NotBuilt))
+                reason: Reason::Session(SessionKind::Startup(EditFault::Bad { column: 34 }))
             }
         )
     );

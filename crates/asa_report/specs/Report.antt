@@ -1,7 +1,7 @@
 -- The text of the report, line by line.
 use Rattle.std.specs.Prelude.{ℕ, ◌+◌, List, [], ◌∷◌, ◌++◌, length, codes, decimal}
 use Rattle.std.specs.List.{flat_map}
-use Rattle.asa_config.specs.declared.holding.Iface.{Iface}
+use Rattle.asa_ifaces.specs.declared.holding.Iface.{Iface}
 use Rattle.asa_session.specs.declared.scripting.Session.{Session}
 use Rattle.asa_core.specs.declared.history.Entry.{Entry}
 use Rattle.asa_core.specs.declared.history.Entry.TheVariants as entry
@@ -68,4 +68,4 @@ startup_line accepted passed = codes "startup " ++ decimal accepted ++ codes " a
 
 -- the whole report
 unfoldable pub text : Session → List PhaseReport → List ℕ
-text s rs = startup_line (length s.startup) s.passed ++ phases_text s.config.ifaces 1 0 rs
+text s rs = startup_line (length s.startup) s.passed ++ phases_text s.config.net.ifaces 1 0 rs

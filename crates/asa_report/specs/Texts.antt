@@ -5,14 +5,14 @@ use Rattle.asa_base.specs.declared.flowing.Header.{Header}
 use Rattle.asa_base.specs.declared.flowing.NatPlace.{NatPlace}
 use Rattle.asa_base.specs.declared.flowing.AccessBy.{AccessBy}
 use Rattle.asa_base.specs.declared.flowing.AccessBy.TheVariants as by
-use Rattle.asa_config.specs.declared.holding.Iface.{Iface}
-use Rattle.asa_policy.specs.declared.outcomes.Route.{Route}
-use Rattle.asa_policy.specs.declared.outcomes.Route.TheVariants as route
-use Rattle.asa_policy.specs.declared.outcomes.SourceMap.{SourceMap}
-use Rattle.asa_policy.specs.declared.outcomes.SourceMap.TheVariants as source
-use Rattle.asa_policy.specs.declared.outcomes.Decision.{Decision}
-use Rattle.asa_policy.specs.declared.outcomes.DropReason.{DropReason}
-use Rattle.asa_policy.specs.declared.outcomes.DropReason.TheVariants as drop
+use Rattle.asa_ifaces.specs.declared.holding.Iface.{Iface}
+use Rattle.asa_flow.specs.declared.outcomes.Route.{Route}
+use Rattle.asa_flow.specs.declared.outcomes.Route.TheVariants as route
+use Rattle.asa_flow.specs.declared.outcomes.SourceMap.{SourceMap}
+use Rattle.asa_flow.specs.declared.outcomes.SourceMap.TheVariants as source
+use Rattle.asa_flow.specs.declared.outcomes.Decision.{Decision}
+use Rattle.asa_flow.specs.declared.outcomes.DropReason.{DropReason}
+use Rattle.asa_flow.specs.declared.outcomes.DropReason.TheVariants as drop
 
 -- a name, where there is one
 abbrev pub name_text : Option (List ℕ) → List ℕ

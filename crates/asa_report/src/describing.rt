@@ -3,8 +3,8 @@ ghost use Rattle.std.specs.Prelude.{◌≡◌, ◌++◌, OnOk, codes, decimal};
 ghost use Rattle.asa_report.specs.Texts.{name_text, name_of, header_text, place_text, route_text, access_text, source_place, reason_word, collision_text, reason_detail, way_text, sides_text, decision_text};
 
 use asa_base::{AccessBy, Header, Name, NatPlace};
-use asa_config::Iface;
-use asa_policy::{Decision, DropReason, Route, SourceMap};
+use asa_flow::{Decision, DropReason, Route, SourceMap};
+use asa_ifaces::Iface;
 use asa_text::{push_address_port, push_bytes, push_number};
 use std::alloc::AllocError;
 

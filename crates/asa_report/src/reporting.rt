@@ -6,8 +6,8 @@ ghost use Rattle.asa_report.specs.Report.{command_text, entry_text, entry_line, 
 use crate::describing::{
     push_decision, push_header, push_name_of, push_reason_detail, push_reason_word,
 };
-use asa_config::Iface;
 use asa_core::{Answer, Entry, Given, PhaseReport};
+use asa_ifaces::Iface;
 use asa_session::Session;
 use asa_text::{push_bytes, push_number};
 use std::alloc::AllocError;
@@ -222,6 +222,6 @@ pub fn write_report(
     ensures { OnOk result (out.new.items ≡ out.old.items ++ text session.now phases.now) }
 {
     push_startup(out, session.startup.len() as u64, u64::from(session.passed))?;
-    push_phases(out, session.config.get().ifaces(), phases)?;
+    push_phases(out, session.config.get().ifaces().ifaces(), phases)?;
     Ok(())
 }

@@ -2,7 +2,7 @@ use crate::{fault_text, kind_text, refused_line, too_long_text, write_failed_lin
 use asa_base::{AccessBy, Header, Name, NatPlace};
 use asa_config::{Config, EditFault};
 use asa_core::{Answer, Entry, Given, PhaseReport};
-use asa_policy::{Decision, DropReason, Route, SourceMap};
+use asa_flow::{Decision, DropReason, Route, SourceMap};
 use asa_session::{Session, SessionKind, Shared};
 use asa_text::{Addr, Items, cut_blocks};
 use std::alloc::{AllocError, Global};

@@ -9,11 +9,12 @@ use Rattle.asa_text.specs.declared.reading.LineFault.{LineFault}
 use Rattle.asa_text.specs.Lines.{is_kept, is_indented}
 use Rattle.asa_text.specs.Words.{Left, line_left}
 use Rattle.asa_text.specs.Readers.{Read, ◌>>=◌, word_at, next_is, keyword_at, number_at, address_at, end_at}
-use Rattle.asa_base.specs.Naming.{is_name}
+use Rattle.asa_base.specs.Naming.{name_at}
 use Rattle.asa_base.specs.declared.flowing.Packet.{Packet}
-use Rattle.asa_config.specs.declared.holding.Iface.{Iface}
-use Rattle.asa_config.specs.Settings.{Settings, has_name, interface_of, is_named}
-use Rattle.asa_config.specs.Routes.{interface_at}
+use Rattle.asa_ifaces.specs.declared.holding.Iface.{Iface}
+use Rattle.asa_base.specs.Reading.{interface_at}
+use Rattle.asa_ifaces.specs.Interfaces.{has_name, interface_of, is_named}
+use Rattle.asa_config.specs.Settings.{Settings}
 use Rattle.asa_session.specs.declared.scripting.SessionError.{SessionError}
 use Rattle.asa_session.specs.Judging.{and_then, unbuilt_script}
 use Rattle.asa_session.specs.Scripts.{packet_line, lane_line, built_at, has_new_ends, with_packet, command_line, script_line, script_packets}
@@ -50,29 +51,29 @@ has_name_named name i h = elim (none_or_some i.name) [
   | inr some ↦ rw some.1 refl
 ]
 
-named_place : (c : Settings) (name : List ℕ) (ifc : ℕ) → interface_of c name ≡ Some ifc → is_named c ifc ≡ true
+named_place : (c : Settings) (name : List ℕ) (ifc : ℕ) → interface_of c.net name ≡ Some ifc → is_named c.net ifc ≡ true
 named_place c name ifc e =
-    let w = position-Some (has_name name) c.ifaces ifc no_iface e in
-    let there = slice_get-get_or c.ifaces ifc no_iface w.0 in
-    rw there (has_name_named name (get_or c.ifaces ifc no_iface) w.1)
+    let w = position-Some (has_name name) c.net.ifaces ifc no_iface e in
+    let there = slice_get-get_or c.net.ifaces ifc no_iface w.0 in
+    rw there (has_name_named name (get_or c.net.ifaces ifc no_iface) w.1)
 
 -- the interface that a word names is a named one
-interface_named : (c : Settings) (left : Left) (ifc : ℕ) (rest : Left) → interface_at c left ≡ Ok (ifc, rest) → is_named c ifc ≡ true
+interface_named : (c : Settings) (left : Left) (ifc : ℕ) (rest : Left) → interface_at (interface_of c.net) left ≡ Ok (ifc, rest) → is_named c.net ifc ≡ true
 unfolding interface_at
 interface_named c left ifc rest e =
-    let w = bind_ok (word_at left) _ (ifc, rest) e in
-    let found = passed_form (is_name w.0.0.word) _ _ (ifc, rest) w.2 in
-    elim (none_or_some (interface_of c w.0.0.word)) [
+    let w = bind_ok (name_at left) _ (ifc, rest) e in
+    let found = w.2 in
+    elim (none_or_some (interface_of c.net w.0.0)) [
       | inl none ↦ absurd (let h = rw none at found in cc)
-      | inr some ↦ (let h = rw some.1 at found in let same = same_value (some.0, w.0.1) (ifc, rest) h in named_place c w.0.0.word ifc (some.1 ∙ ap Some same))
+      | inr some ↦ (let h = rw some.1 at found in let same = same_value (some.0, w.0.1) (ifc, rest) h in named_place c w.0.0 ifc (some.1 ∙ ap Some same))
     ]
 
 -- so is that of a packet line
-packet_named : (c : Settings) (left : Left) (p : Packet) (rest : Left) → packet_line c left ≡ Ok (p, rest) → is_named c p.ifc ≡ true
+packet_named : (c : Settings) (left : Left) (p : Packet) (rest : Left) → packet_line c left ≡ Ok (p, rest) → is_named c.net p.ifc ≡ true
 unfolding packet_line
 packet_named c left p rest e =
     let w1 = bind_ok (keyword_at (codes "packet") left) _ (p, rest) e in
-    let w2 = bind_ok (interface_at c w1.0.1) _ (p, rest) w1.2 in
+    let w2 = bind_ok (interface_at (interface_of c.net) w1.0.1) _ (p, rest) w1.2 in
     let w3 = bind_ok (keyword_at (codes "tcp") w2.0.1) _ (p, rest) w2.2 in
     let w4 = bind_ok (address_at w3.0.1) _ (p, rest) w3.2 in
     let w5 = bind_ok (number_at 0 65535 w4.0.1) _ (p, rest) w4.2 in
@@ -81,7 +82,7 @@ packet_named c left p rest e =
     let w8 = bind_ok (keyword_at (codes "S") w7.0.1) _ (p, rest) w7.2 in
     let w9 = bind_ok (end_at w8.0.1) _ (p, rest) w8.2 in
     let same = ap (λ (q : Packet). q.ifc) (same_value _ (p, rest) w9.2) in
-    subst (λ i. is_named c i ≡ true) same (interface_named c w1.0.1 w2.0.0 w2.0.1 w2.1)
+    subst (λ i. is_named c.net i ≡ true) same (interface_named c w1.0.1 w2.0.0 w2.0.1 w2.1)
 
 built_ok : {X : Type 0} (n : ℕ) (r : Read X) (x : X) → built_at n r ≡ Ok x → (rest : Left) × (r ≡ Ok (x, rest))
 built_ok n (Ok read) x e = let same : read.0 ≡ x = cc in (read.1, ap (λ y. Ok (y, read.1)) same)
@@ -90,7 +91,7 @@ built_ok n (Err why) x e = absurd (cc)
 -- the packets are those of before, or one more that comes in on a named interface
 abbrev Gains : Settings → List Packet → List Packet → Type 0
 Gains c earlier packets = (packets ≡ earlier)
-    ⊎ ((p : Packet) × (packets ≡ earlier ++ p ∷ []) × (is_named c p.ifc ≡ true) × ((length earlier == 8192) ≡ false))
+    ⊎ ((p : Packet) × (packets ≡ earlier ++ p ∷ []) × (is_named c.net p.ifc ≡ true) × ((length earlier == 8192) ≡ false))
 
 fits_and : {X : Type 0} (full new : Bool) (x y : X) (why : SessionError) → (if not full && new then Ok x else Err why) ≡ Ok y → (full ≡ false) × (y ≡ x)
 fits_and true new x y why e = absurd (cc)
@@ -124,13 +125,13 @@ line_gains c earlier l packets e = by (is_kept l) (is_indented l) e
 -- the packets of a script are few, and each comes in on a named interface
 pub record AreCarried (c : Settings) (packets : List Packet) : Type 0 where
   pub few : length packets ≤ 8192
-  pub named : All (λ p. is_named c p.ifc ≡ true) packets
+  pub named : All (λ p. is_named c.net p.ifc ≡ true) packets
 
 gains_carried : (c : Settings) (earlier packets : List Packet) → AreCarried c earlier → Gains c earlier packets → AreCarried c packets
 gains_carried c earlier packets known (inl same) = subst (AreCarried c) (sym same) known
 gains_carried c earlier packets known (inr more) = subst (AreCarried c) (sym more.1) (record {
   few = let below = known.few in let full = more.3 in simp length-append (grind (arith, nat_tests));
-  named = All-push (λ p. is_named c p.ifc ≡ true) earlier more.0 known.named more.2;
+  named = All-push (λ p. is_named c.net p.ifc ≡ true) earlier more.0 known.named more.2;
 })
 
 pub script_carried : (c : Settings) (n : ℕ) (earlier : List Packet) (ls : List Line) (packets : List Packet) → AreCarried c earlier → script_packets c n earlier ls ≡ Ok packets → AreCarried c packets

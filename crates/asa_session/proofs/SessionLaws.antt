@@ -14,7 +14,7 @@ use Rattle.asa_session.specs.declared.scripting.Command.{Command}
 use Rattle.asa_session.specs.declared.scripting.Command.TheVariants as command
 use Rattle.asa_session.specs.declared.scripting.Session.{Session}
 use Rattle.asa_session.specs.Judging.{and_then}
-use Rattle.asa_session.specs.Starting.{startup_config}
+use Rattle.asa_session.specs.Starting.{kept_of, passed_count, startup_config}
 use Rattle.asa_session.specs.Scripts.{script_packets}
 use Rattle.asa_session.specs.Sessions.{commands_from, session_with, with_script, startup_blocks, session_of_lines}
 use Rattle.asa_session.specs.Readiness.{IsReady, enters_named, commands_of}
@@ -37,36 +37,34 @@ each_command P i (p ∷ ps) each =
     (each_command P (i + 1) ps (All-tail (λ q. (k : ℕ) → P (1, k, command.Packet q)) p ps each))
 
 -- the commands of a session of one lane are its packets
-commands_of_session : (bs : List Block) (c : Settings) (ps : List Packet) → commands_of (session_with bs c ps) ≡ commands_from 1 ps
-commands_of_session bs c [] = refl
-commands_of_session bs c (p ∷ ps) = append-nil (commands_from 1 (p ∷ ps))
+commands_of_session : (bs : List Block) (n : ℕ) (c : Settings) (ps : List Packet) → commands_of (session_with bs n c ps) ≡ commands_from 1 ps
+commands_of_session bs n c [] = refl
+commands_of_session bs n c (p ∷ ps) = append-nil (commands_from 1 (p ∷ ps))
 
-ready_with : (bs : List Block) (c : Settings) (ps : List Packet) → fold after_block nothing bs ≡ c → length bs ≤ 1024 → AreCarried c ps → IsReady (session_with bs c ps)
+ready_with : (bs : List Block) (n : ℕ) (c : Settings) (ps : List Packet) → fold after_block nothing bs ≡ c → AreCarried c ps → IsReady (session_with bs n c ps)
 unfolding config_of
-ready_with bs c ps configured few carried =
-    let asked = commands_of_session bs c ps in
+ready_with bs n c ps configured carried =
+    let asked = commands_of_session bs n c ps in
     record {
       configured = sym configured;
       named = rw asked (each_command (λ a. enters_named c a.2 ≡ true) 1 ps (λ k d below h. carried.named k d below));
       one_lane = rw asked (each_command (λ a. a.0 ≡ 1) 1 ps (λ k d below h. refl));
       indices = rw asked (indices 1 ps);
       few_commands = rw (asked, length-commands_from) carried.few;
-      few_blocks = few;
     }
 
 with_script_ok : (count : ℕ) (bs : List Block) (o : Option (List Line)) (c : Settings) (s : Session) → with_script count bs o c ≡ Ok s
-    → (ps : List Packet) × AreCarried c ps × (session_with bs c ps ≡ s)
+    → (ps : List Packet) × AreCarried c ps × (session_with (kept_of bs) (passed_count bs) c ps ≡ s)
 with_script_ok count bs None c s e = absurd (cc)
 with_script_ok count bs (Some script) c s e =
-    let w = and_then_ok (script_packets c 0 [] script) (λ ps. Ok (session_with bs c ps)) s e in
+    let w = and_then_ok (script_packets c 0 [] script) (λ ps. Ok (session_with (kept_of bs) (passed_count bs) c ps)) s e in
     let none : AreCarried c [] = record { few = omega arith; named = λ k d below. absurd (omega (arith, below)) } in
-    (w.0, script_carried c 0 [] script w.0 none w.1, (let same : session_with bs c w.0 ≡ s = cc in same))
+    (w.0, script_carried c 0 [] script w.0 none w.1, (let same : session_with (kept_of bs) (passed_count bs) c w.0 ≡ s = cc in same))
 
 pub session_is_ready : (ls : List Line) (s : Session) → session_of_lines ls ≡ Ok s → IsReady s
 unfolding session_of_lines
 session_is_ready ls s e =
-    let b = and_then_ok (startup_blocks (blocks_of (before_end ls))) (λ bs. and_then (startup_config 0 nothing bs) (with_script (length ls) bs (after_end ls))) s e in
-    let c = and_then_ok (startup_config 0 nothing b.0) (with_script (length ls) b.0 (after_end ls)) s b.2 in
+    let b = and_then_ok (startup_blocks (blocks_of (before_end ls))) (λ bs. and_then (startup_config nothing (kept_of bs)) (with_script (length ls) bs (after_end ls))) s e in
+    let c = and_then_ok (startup_config nothing (kept_of b.0)) (with_script (length ls) b.0 (after_end ls)) s b.2 in
     let w = with_script_ok (length ls) b.0 (after_end ls) c.0 s c.2 in
-    let started = startup_ok 0 nothing b.0 c.0 (omega arith) c.1 in
-    subst IsReady w.2 (ready_with b.0 c.0 w.0 started.0 (omega (arith, started.1)) w.1)
+    subst IsReady w.2 (ready_with (kept_of b.0) (passed_count b.0) c.0 w.0 (startup_ok nothing (kept_of b.0) c.0 c.1) w.1)

@@ -1,6 +1,5 @@
 -- How a part of a session is judged: accepted with what it means, or refused at a line of the text.
 use Rattle.std.specs.Prelude.{◌≡◌, ℕ, Result, Ok, Err}
-use Rattle.asa_config.specs.declared.holding.EditFault.TheVariants as fault
 use Rattle.asa_session.specs.declared.scripting.SessionKind.TheVariants as kind
 use Rattle.asa_session.specs.declared.scripting.SessionError.{SessionError}
 use Rattle.asa_session.specs.declared.scripting.SessionError.TheVariants.{At, NoMemory}
@@ -10,9 +9,9 @@ abbrev pub and_then : {X Y : Type 0} → Result X SessionError → (X → Result
 and_then (Ok x) more = more x
 and_then (Err why) more = Err why
 
--- a startup line that isn't built
-abbrev pub unbuilt_startup : {X : Type 0} → ℕ → Result X SessionError
-unbuilt_startup line = Err (At line (kind.Startup fault.NotBuilt))
+-- a line that has none of the forms of its place
+abbrev pub out_of_form : {X : Type 0} → ℕ → Result X SessionError
+out_of_form line = Err (At line kind.Syntax)
 
 -- a script line that isn't built
 abbrev pub unbuilt_script : {X : Type 0} → ℕ → Result X SessionError

@@ -1,7 +1,8 @@
 -- What holds of every accepted session, and what the machine stands on.
 use Rattle.std.specs.Prelude.{◌≡◌, ℕ, ◌≤◌, Bool, List, map, length, All, IsTrue}
 use Rattle.std.specs.List.{flat_map, range_with_len}
-use Rattle.asa_config.specs.Settings.{Settings, is_named}
+use Rattle.asa_ifaces.specs.Interfaces.{is_named}
+use Rattle.asa_config.specs.Settings.{Settings}
 use Rattle.asa_config.specs.Steps.{config_of}
 use Rattle.asa_session.specs.declared.scripting.Command.{Command}
 use Rattle.asa_session.specs.declared.scripting.Command.TheVariants as command
@@ -9,7 +10,7 @@ use Rattle.asa_session.specs.declared.scripting.Session.{Session}
 
 -- the packet of the command comes in on a named interface
 abbrev pub enters_named : Settings → Command → Bool
-enters_named c (command.Packet p) = is_named c p.ifc
+enters_named c (command.Packet p) = is_named c.net p.ifc
 
 -- the commands of all phases, in the order of the text
 abbrev pub commands_of : Session → List (ℕ × ℕ × Command)
@@ -23,6 +24,5 @@ pub record IsReady (s : Session) : Type 0 where
   -- each command is lane 1's, and their indices count from 1
   pub one_lane : All (λ asked. asked.0 ≡ 1) (commands_of s)
   pub indices : map (λ asked. asked.1) (commands_of s) ≡ range_with_len 1 (length (commands_of s))
-  -- the limits hold
+  -- the limit holds
   pub few_commands : length (commands_of s) ≤ 8192
-  pub few_blocks : length s.startup ≤ 1024

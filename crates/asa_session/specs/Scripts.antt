@@ -8,8 +8,9 @@ use Rattle.asa_text.specs.Lines.{is_kept, is_indented}
 use Rattle.asa_text.specs.Words.{Left, line_left}
 use Rattle.asa_text.specs.Readers.{Read, ◌>>=◌, next_is, keyword_at, number_at, address_at, end_at}
 use Rattle.asa_base.specs.declared.flowing.Packet.{Packet}
+use Rattle.asa_base.specs.Reading.{interface_at}
+use Rattle.asa_ifaces.specs.Interfaces.{interface_of}
 use Rattle.asa_config.specs.Settings.{Settings}
-use Rattle.asa_config.specs.Routes.{interface_at}
 use Rattle.asa_session.specs.declared.scripting.SessionError.{SessionError}
 use Rattle.asa_session.specs.Judging.{and_then, unbuilt_script}
 
@@ -17,7 +18,7 @@ use Rattle.asa_session.specs.Judging.{and_then, unbuilt_script}
 unfoldable pub packet_line : Settings → Left → Read Packet
 packet_line c left = do
   (_, left) ← keyword_at (codes "packet") left
-  (ifc, left) ← interface_at c left
+  (ifc, left) ← interface_at (interface_of c.net) left
   (_, left) ← keyword_at (codes "tcp") left
   (src, left) ← address_at left
   (sport, left) ← number_at 0 65535 left

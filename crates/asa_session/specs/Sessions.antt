@@ -15,8 +15,8 @@ use Rattle.asa_session.specs.declared.scripting.Session.{Session}
 use Rattle.asa_session.specs.declared.scripting.SessionKind.TheVariants.{NoEnd}
 use Rattle.asa_session.specs.declared.scripting.SessionError.{SessionError}
 use Rattle.asa_session.specs.declared.scripting.SessionError.TheVariants.{At}
-use Rattle.asa_session.specs.Judging.{and_then, unbuilt_startup}
-use Rattle.asa_session.specs.Starting.{startup_config}
+use Rattle.asa_session.specs.Judging.{and_then, out_of_form}
+use Rattle.asa_session.specs.Starting.{kept_of, passed_count, startup_config}
 use Rattle.asa_session.specs.Scripts.{script_packets}
 
 -- the packets as the commands of lane 1, of which the first has the index i
@@ -29,24 +29,28 @@ abbrev pub phases_of : List Packet → List PhaseText
 phases_of [] = []
 phases_of (p ∷ ps) = record { commands = commands_from 1 (p ∷ ps); end = Input } ∷ []
 
--- the session of accepted startup blocks and of the packets of the script
-abbrev pub session_with : List Block → Settings → List Packet → Session
-session_with bs c packets = record { startup = bs; passed = 0; config = c; phases = phases_of packets }
+-- the session of accepted startup blocks, with how many more were passed over, and of the packets of the script
+abbrev pub session_with : List Block → ℕ → Settings → List Packet → Session
+session_with kept passed c packets = record { startup = kept; passed = passed; config = c; phases = phases_of packets }
+
+-- the session of accepted startup blocks and of the lines of the script
+abbrev pub with_packets : List Block → ℕ → Settings → List Line → Result Session SessionError
+with_packets kept passed c script = and_then (script_packets c 0 [] script) (λ packets. Ok (session_with kept passed c packets))
 
 -- the session of accepted startup blocks and of the lines after `: end`, where it stands among so many lines
 abbrev pub with_script : ℕ → List Block → Option (List Line) → Settings → Result Session SessionError
 with_script count bs None c = Err (At (count + 1) NoEnd)
-with_script count bs (Some script) c = and_then (script_packets c 0 [] script) (λ packets. Ok (session_with bs c packets))
+with_script count bs (Some script) c = with_packets (kept_of bs) (passed_count bs) c script
 
--- the blocks of the startup part; an indented line before any of them isn't built
+-- the blocks of the startup part; an indented line before any of them is out of form
 abbrev pub startup_blocks : Result (List Block) BlockFault → Result (List Block) SessionError
-startup_blocks (Err early) = unbuilt_startup early.line
+startup_blocks (Err early) = out_of_form early.line
 startup_blocks (Ok bs) = Ok bs
 
 -- the session of lines, or the refusal of the least refused line
 unfoldable pub session_of_lines : List Line → Result Session SessionError
 session_of_lines ls = and_then (startup_blocks (blocks_of (before_end ls)))
-    (λ bs. and_then (startup_config 0 nothing bs) (with_script (length ls) bs (after_end ls)))
+    (λ bs. and_then (startup_config nothing (kept_of bs)) (with_script (length ls) bs (after_end ls)))
 
 -- the session of a text
 abbrev pub session_of : List ℕ → Result Session SessionError

@@ -2,14 +2,13 @@
 ghost use Rattle.std.specs.Prelude.{◌≡◌, []};
 ghost use Rattle.asa_text.specs.Readers.{Reads, number_at};
 ghost use Rattle.asa_text.specs.Words.{line_left};
-ghost use Rattle.asa_config.specs.Routes.{interface_at};
 ghost use Rattle.asa_session.specs.Judging.{Judged, Leaves};
 ghost use Rattle.asa_session.specs.Scripts as spec;
 
 use crate::collecting::Flows;
 use crate::judging::unbuilt_script;
 use crate::scripting::SessionError;
-use asa_base::{Name, Packet};
+use asa_base::{Packet, interface};
 use asa_config::Config;
 use asa_text::{LineFault, LineView, Lines, Words, address, end_of_line, keyword, number};
 use std::alloc::Global;
@@ -29,29 +28,13 @@ fn read_port(words: &mut Words<'_>) -> Result<u16, LineFault>
     Ok(port as u16)
 }
 
-/// Reads the name of an interface, as its number.
-#[tactic(auto, unfolding(asa_config::specs::Routes::interface_at))]
-fn read_interface(config: &Config, words: &mut Words<'_>) -> Result<u8, LineFault>
-    ensures { Reads result words.new (interface_at config.now words.old) }
-{
-    let word = words.word()?;
-    let column = word.column();
-    let Some(name) = Name::new(word.bytes()) else {
-        return Err(LineFault::Bad { column });
-    };
-    match config.interface_of(&name) {
-        Some(ifc) => Ok(ifc),
-        None => Err(LineFault::NoSuchInterface { column }),
-    }
-}
-
 /// Reads a packet line.
 #[tactic(auto, unfolding(crate::specs::Scripts::packet_line))]
 fn read_packet(config: &Config, words: &mut Words<'_>) -> Result<Packet, LineFault>
     ensures { Reads result words.new (spec.packet_line config.now words.old) }
 {
     keyword(words, b"packet")?;
-    let ifc = read_interface(config, words)?;
+    let ifc = interface(words, config)?;
     keyword(words, b"tcp")?;
     let src = address(words)?;
     let sport = read_port(words)?;

@@ -6,12 +6,11 @@ mod commanding;
 mod judging;
 mod reading;
 mod scripting;
-mod sharing;
 mod starting;
 
+pub use asa_text::Shared;
 pub use reading::read_session;
 pub use scripting::{Command, PhaseEnd, PhaseText, Session, SessionError, SessionKind};
-pub use sharing::Shared;
 
 #[cfg(test)]
 mod tests;

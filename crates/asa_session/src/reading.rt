@@ -5,13 +5,12 @@ ghost use Rattle.asa_session.specs.Readiness.{IsReady};
 ghost use Rattle.asa_session.specs.Sessions as spec;
 
 use crate::commanding::script_packets;
-use crate::judging::unbuilt_startup;
+use crate::judging::out_of_form;
 use crate::scripting::{Command, PhaseEnd, PhaseText, Session, SessionError, SessionKind};
-use crate::sharing::Shared;
-use crate::starting::startup_config;
+use crate::starting::{Startup, startup_config, without_passed};
 use asa_base::Packet;
 use asa_config::Config;
-use asa_text::{Block, BlockFault, Items, Lines, StartupText, cut_startup};
+use asa_text::{Block, BlockFault, Items, Lines, Shared, StartupText, cut_startup};
 use std::alloc::{AllocError, Global};
 
 /// The lane of every command.
@@ -48,18 +47,18 @@ fn phases_of(alloc: Global, packets: &[Packet]) -> Result<Items<PhaseText>, Allo
 /// The session of its parts.
 fn session_with(
     alloc: Global,
-    startup: Items<Block>,
+    startup: Startup,
     config: Config,
     packets: &[Packet],
 ) -> Result<Session, AllocError>
     requires { length packets.now ≤ 8192 }
-    ensures { IfOk result (λ s. s ≡ spec.session_with startup config packets.now) }
+    ensures { IfOk result (λ s. s ≡ spec.session_with startup.kept startup.passed config packets.now) }
 {
     let phases = phases_of(alloc, packets)?;
     let config = Shared::new(alloc, config)?;
     Ok(Session {
-        startup,
-        passed: 0,
+        startup: startup.kept,
+        passed: startup.passed,
         config,
         phases,
     })
@@ -71,8 +70,22 @@ fn startup_blocks(blocks: Result<Items<Block>, BlockFault>) -> Result<Items<Bloc
 {
     match blocks {
         Ok(blocks) => Ok(blocks),
-        Err(early) => Err(unbuilt_startup(early.line)),
+        Err(early) => Err(out_of_form(early.line)),
     }
+}
+
+/// Reads the script of a session.
+fn read_script(
+    alloc: Global,
+    startup: Startup,
+    config: Config,
+    lines: &mut Lines<'_>,
+) -> Result<Session, SessionError>
+    ensures { Judged result (spec.with_packets startup.kept startup.passed config lines.old.lines) }
+{
+    let flows = script_packets(alloc, &config, lines)?;
+    let session = session_with(alloc, startup, config, flows.as_slice())?;
+    Ok(session)
 }
 
 /// Reads a session from its lines.
@@ -82,20 +95,19 @@ fn read_lines(alloc: Global, lines: &mut Lines<'_>) -> Result<Session, SessionEr
     ensures { Judged result (spec.session_of_lines lines.old.lines) }
 {
     let StartupText { blocks, ended } = cut_startup(alloc, lines)?;
-    let blocks = startup_blocks(blocks)?;
-    let config = startup_config(alloc, blocks.as_slice())?;
+    let count = lines.number();
+    let startup = without_passed(alloc, startup_blocks(blocks)?)?;
+    let config = startup_config(alloc, startup.kept.as_slice())?;
     if !ended {
         return Err(SessionError::At {
-            line: lines.number(),
+            line: count,
             kind: SessionKind::NoEnd,
         });
     }
-    let flows = script_packets(alloc, &config, lines)?;
-    let session = session_with(alloc, blocks, config, flows.as_slice())?;
-    Ok(session)
+    read_script(alloc, startup, config, lines)
 }
 
-/// Reads a session. A text is refused at its least refused line; a line that has no form so far isn't built.
+/// Reads a session. A text is refused at its least refused line; a line of the script that has no form so far isn't built.
 #[tactic(auto, using(crate::proofs::SessionLaws::session_is_ready))]
 pub fn read_session(alloc: Global, text: &[u8]) -> Result<Session, SessionError>
     requires { 1 + length text.now < 2 ^ 32 - 1 }

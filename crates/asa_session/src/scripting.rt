@@ -1,8 +1,7 @@
 //! What a session is made of, and why a text is no session.
-use crate::sharing::Shared;
 use asa_base::Packet;
 use asa_config::{Config, EditFault};
-use asa_text::{Block, Items};
+use asa_text::{Block, Items, Shared};
 use std::alloc::AllocError;
 
 /// What a lane asks of the firewall.

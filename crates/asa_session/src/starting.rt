@@ -1,17 +1,51 @@
-//! The configuration of the startup blocks.
-ghost use Rattle.std.specs.Prelude.{◌≡◌};
+//! The startup part: which of its blocks are kept, and the configuration that they make.
+ghost use Rattle.std.specs.Prelude.{◌≡◌, IfOk};
 ghost use Rattle.asa_config.specs.Settings.{nothing};
 ghost use Rattle.asa_session.specs.Judging.{Judged, Leaves};
 ghost use Rattle.asa_session.specs.Starting as spec;
 
-use crate::judging::unbuilt_startup;
 use crate::scripting::{SessionError, SessionKind};
-use asa_config::{Config, EditRefusal};
-use asa_text::Block;
-use std::alloc::Global;
+use asa_config::{Class, Config, EditRefusal, class_of};
+use asa_text::{Block, Items};
+use std::alloc::{AllocError, Global};
 
-/// At most so many blocks are built.
-const MOST_BLOCKS: usize = 1024;
+/// The startup blocks that aren't passed over, and how many are.
+#[derive(Debug, Drop)]
+pub(crate) struct Startup {
+    pub(crate) kept: Items<Block>,
+    pub(crate) passed: u32,
+}
+
+/// Whether the block isn't passed over.
+fn is_kept(block: &Block) -> bool
+    ensures { result ≡ spec.is_kept block.now }
+{
+    match class_of(block) {
+        Class::Passed => false,
+        _ => true,
+    }
+}
+
+/// Parts the blocks that are kept from those that are passed over. More of these than a `u32` counts are taken for want of
+/// memory; no text can hold them.
+pub(crate) fn without_passed(alloc: Global, blocks: Items<Block>) -> Result<Startup, AllocError>
+    ensures kept { IfOk result (λ s. s.kept ≡ spec.kept_of blocks) }
+    ensures passed { IfOk result (λ s. s.passed ≡ spec.passed_count blocks) }
+{
+    let mut kept = Items::new(alloc);
+    let mut passed: u64 = 0;
+    for block in blocks.into_vec() {
+        if is_kept(&block) {
+            kept.push(block)?;
+        } else {
+            passed += 1;
+        }
+    }
+    let Ok(passed) = u32::try_from(passed) else {
+        return Err(AllocError);
+    };
+    Ok(Startup { kept, passed })
+}
 
 /// The number that a line of a block, counted from 1, has in the text.
 fn number_in_text(block: &Block, line: u32) -> u32
@@ -23,14 +57,11 @@ fn number_in_text(block: &Block, line: u32) -> u32
     }
 }
 
-/// Takes one more block, of which `count` were taken before.
+/// Takes one more block.
 #[tactic(auto, unfolding(crate::specs::Starting::startup_step))]
-fn take_block(config: &mut Config, count: usize, block: &Block) -> Result<(), SessionError>
-    ensures { Leaves result config.new (spec.startup_step count config.old block.now) }
+fn take_block(config: &mut Config, block: &Block) -> Result<(), SessionError>
+    ensures { Leaves result config.new (spec.startup_step config.old block.now) }
 {
-    if count == MOST_BLOCKS {
-        return Err(unbuilt_startup(number_in_text(block, 1)));
-    }
     match config.step(block, true) {
         Ok(()) => Ok(()),
         Err(EditRefusal::At { line, fault }) => Err(SessionError::At {
@@ -43,11 +74,11 @@ fn take_block(config: &mut Config, count: usize, block: &Block) -> Result<(), Se
 
 /// The configuration of the blocks, or the refusal of the first that is refused.
 pub(crate) fn startup_config(alloc: Global, blocks: &[Block]) -> Result<Config, SessionError>
-    ensures { Judged result (spec.startup_config 0 nothing blocks.now) }
+    ensures { Judged result (spec.startup_config nothing blocks.now) }
 {
     let mut config = Config::empty(alloc);
-    for (count, block) in blocks.iter().enumerate() {
-        take_block(&mut config, count, block)?;
+    for block in blocks {
+        take_block(&mut config, block)?;
     }
     Ok(config)
 }

@@ -57,7 +57,7 @@ packet\toutside tcp 198.51.100.9 65535 10.0.0.5 40001 S",
     let session = read(&rt, rt.alloc(), &text)?;
     assert_eq!(rt; session.startup.len(), 2);
     assert_eq!(rt; session.passed, 0);
-    assert_eq!(rt; session.config.get().ifaces().len(), 2);
+    assert_eq!(rt; session.config.get().ifaces().ifaces().len(), 2);
     let first = Packet {
         ifc: 1,
         proto: 6,
@@ -105,25 +105,57 @@ fn a_session_without_a_command_has_no_phase(rt: HostRuntime) -> Result<(), Fail>
 
 #[test]
 fn a_startup_line_is_refused_at_its_number(rt: HostRuntime) {
-    for (line, text) in [
-        (1, b" nameif outside\n: end\n".as_slice()),
-        (1, b" : end\n: end\n"),
-        (3, b"!\n\n\tnameif outside\ninterface G0\n: end\n"),
+    for (line, kind, text) in [
+        (
+            1,
+            SessionKind::Syntax,
+            b" nameif outside\n: end\n".as_slice(),
+        ),
+        (1, SessionKind::Syntax, b" : end\n: end\n"),
         (
             3,
-            b"interface G0\n nameif outside\nobject network N\n: end\n",
+            SessionKind::Syntax,
+            b"!\n\n\tnameif outside\ninterface G0\n: end\n",
         ),
-        (5, b"interface G0\n nameif outside\n\n!\n mtu 1500\n: end\n"),
-        (3, b"interface G0\n nameif outside\nno route\n"),
-        (1, b"route\n: end\nlane 2\n"),
+        (
+            3,
+            SessionKind::Startup(EditFault::NotBuilt),
+            b"interface G0\n nameif outside\nobject network N\n host 10.0.0.9\n: end\n",
+        ),
+        (
+            3,
+            SessionKind::Startup(EditFault::Bad { column: 17 }),
+            b"interface G0\n nameif outside\n security-level 101\n",
+        ),
+        (
+            3,
+            SessionKind::Startup(EditFault::NoSuchLine),
+            b"interface G0\n nameif outside\nno route outside 0 0 10.0.0.9\n",
+        ),
+        (
+            1,
+            SessionKind::Startup(EditFault::Bad { column: 6 }),
+            b"route\n: end\nlane 2\n",
+        ),
     ] {
-        let wanted = Some(SessionKind::Startup(EditFault::NotBuilt));
         assert_eq!(rt;
             refusal(&rt, rt.alloc(), text),
-            (line, wanted),
+            (line, Some(kind)),
             "in {text:?}"
         );
     }
+}
+
+#[test]
+fn passed_blocks_are_counted_and_take_nothing_from_the_others(rt: HostRuntime) -> Result<(), Fail> {
+    let text =
+        b": Saved\nhostname fw1\ninterface G0\n nameif outside\nmtu outside 1500\npolicy-map P\n class C\n  \
+inspect dns\ninterface G1\n nameif inside\n: end\n";
+    let session = read(&rt, rt.alloc(), text)?;
+    assert_eq!(rt; session.startup.len(), 2);
+    assert_eq!(rt; session.passed, 3);
+    assert_eq!(rt; session.config.get().ifaces().ifaces().len(), 2);
+    Ok(())
 }
 
 #[test]
@@ -206,12 +238,10 @@ fn with_routes(alloc: Global, routes: u32) -> Result<Vec<u8>, AllocError> {
 }
 
 #[test]
-fn the_startup_has_at_most_1024_blocks(rt: HostRuntime) -> Result<(), Fail> {
-    let most = with_routes(rt.alloc(), 1022)?;
-    assert!(rt; is_accepted(&rt, rt.alloc(), &most));
-    let more = with_routes(rt.alloc(), 1023)?;
-    let wanted = (5 + 1023, Some(SessionKind::Startup(EditFault::NotBuilt)));
-    assert_eq!(rt; refusal(&rt, rt.alloc(), &more), wanted);
+fn a_startup_of_more_blocks_than_a_history_holds_is_read(rt: HostRuntime) -> Result<(), Fail> {
+    let text = with_routes(rt.alloc(), 1500)?;
+    let session = read(&rt, rt.alloc(), &text)?;
+    assert_eq!(rt; session.startup.len(), 1502);
     Ok(())
 }
 

@@ -4,5 +4,5 @@ use Rattle.asa_config.specs.Settings.{nothing}
 use Rattle.asa_session.specs.Starting.{startup_config}
 use Rattle.asa_session.proofs.starting.startup_config.Given as goal
 
-abbrev pub invariant-loop-count : goal.invariant-loop-count
-invariant-loop-count l = startup_config l.count l.config (drop l.count l.blocks) ≡ startup_config 0 nothing l.blocks
+abbrev pub invariant-loop-block : goal.invariant-loop-block
+invariant-loop-block l = startup_config l.config (drop l.block-index l.blocks) ≡ startup_config nothing l.blocks
