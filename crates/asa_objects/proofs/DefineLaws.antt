@@ -82,6 +82,7 @@ module _ (t : Table) (b : Block) (top : Top) (items : List Item) (drafted : draf
   define-replaced made is lacks h ranks uses stamp new (Err (fault.Unsupported l c)) sound replaces = absurd replaces
   define-replaced made is lacks h ranks uses stamp new (Err (fault.Cycle l)) sound replaces = absurd replaces
   define-replaced made is lacks h ranks uses stamp new (Err (fault.NoSuchMember l)) sound replaces = absurd replaces
+  define-replaced made is lacks h ranks uses stamp new (Err (fault.NotBuilt l)) sound replaces = absurd replaces
 
 -- a line is refused
 pub define-refused : (t : Table) (ranks : Ranks) (b : Block) (top : Top) (f : ObjectFault) → Drafteds t ranks b top (Err f) → Defines (Err f) t t (changed_by t b top)
@@ -94,6 +95,7 @@ define-refused t ranks b top (fault.Bad l c) h = (ap (λ r. and_then r (λ xs. c
 define-refused t ranks b top (fault.Unsupported l c) h = (ap (λ r. and_then r (λ xs. completed t top (length (top_text b) + 1) xs)) h, refl)
 define-refused t ranks b top (fault.Cycle l) h = (ap (λ r. and_then r (λ xs. completed t top (length (top_text b) + 1) xs)) h, refl)
 define-refused t ranks b top (fault.NoSuchMember l) h = (ap (λ r. and_then r (λ xs. completed t top (length (top_text b) + 1) xs)) h, refl)
+define-refused t ranks b top (fault.NotBuilt l) h = (ap (λ r. and_then r (λ xs. completed t top (length (top_text b) + 1) xs)) h, refl)
 
 abbrev pub made_of : BlockKind → List Item → Entry
 made_of kind items = record { block = kind; items = items }
@@ -108,6 +110,7 @@ refused-of t begun after s (fault.Bad l c) h = (h.0, refl)
 refused-of t begun after s (fault.Unsupported l c) h = (h.0, refl)
 refused-of t begun after s (fault.Cycle l) h = (h.0, refl)
 refused-of t begun after s (fault.NoSuchMember l) h = (h.0, refl)
+refused-of t begun after s (fault.NotBuilt l) h = (h.0, refl)
 
 -- and leaves the table
 pub refused-same : (begun after : Table) (s : Result Table ObjectFault) (f : ObjectFault) → Defines (Err f) begun after s → after ≡ begun
@@ -119,3 +122,4 @@ refused-same begun after s (fault.Bad l c) h = h.1
 refused-same begun after s (fault.Unsupported l c) h = h.1
 refused-same begun after s (fault.Cycle l) h = h.1
 refused-same begun after s (fault.NoSuchMember l) h = h.1
+refused-same begun after s (fault.NotBuilt l) h = h.1

@@ -1,14 +1,12 @@
 -- Members of a draft, and those that are to go.
-use Rattle.std.proofs.Common.{◌≡◌, ℕ, Bool, true, false, cond, not, ◌||◌, ◌&&◌, if◌then◌else◌, List, [], ◌∷◌, ◌++◌, length, refl, sym, ap, subst, ◌∙◌, arith}
+use Rattle.std.proofs.Common.{◌≡◌, Bool, true, false, cond, not, ◌||◌, ◌&&◌, if◌then◌else◌, List, [], ◌∷◌, ◌++◌, length, refl, sym, ap, ◌∙◌, arith}
 use Rattle.std.specs.Cmp.{IsEquivalence}
-use Rattle.std.specs.List.{filter, list_any}
-use Rattle.std.proofs.lemmas.Bool.{false≢true}
+use Rattle.std.specs.List.{filter}
 use Rattle.std.proofs.lemmas.Map.Made.{is_member-filter}
 use Rattle.asa_members.specs.declared.stating.Item.{Item}
 use Rattle.asa_members.specs.contracts.stating.ItemEq.TheImpl.Laws as item_laws
 use Rattle.asa_objects.specs.Defining.{same_item, has_item, with_item, without_item}
 use Rattle.asa_objects.specs.Marks.{standing}
-use Rattle.asa_objects.proofs.ReachLaws.{any-append}
 
 item-equiv : IsEquivalence same_item
 item-equiv = item_laws.laws-law

@@ -1,39 +1,130 @@
--- Members whose names are there and don't lead back fit.
-use Rattle.std.proofs.Common.{◌≡◌, ℕ, ◌+◌, ◌<◌, suc, true, false, List, [], ◌∷◌, ◌++◌, length, take, get_or, Option, Some, None, is_some, sym, ap, subst, ◌∙◌, arith}
-use Rattle.std.specs.List.{AllByRecursion}
-use Rattle.std.specs.Option.{option_to_list}
-use Rattle.std.proofs.Math.Seq.{take-suc}
+-- The members that a block gives a name refer to names that are there and don't lead back.
+use Rattle.std.proofs.Common.{◌≡◌, ℕ, ◌+◌, ◌≤◌, suc, Bool, true, false, cond, not, nat_le, if◌then◌else◌, List, [], ◌∷◌, ◌++◌, length, Option, Some, None, Result, Ok, Err, is_some, refl, subst, arith}
+use Rattle.std.specs.List.{AllByRecursion, filter, list_any}
+use Rattle.std.specs.Option.{option_map}
+use Rattle.std.proofs.lemmas.Bool.{le-leb, leb-true}
+use Rattle.asa_text.specs.declared.lining.Line.{Line}
+use Rattle.asa_text.specs.declared.grouping.Block.{Block}
+use Rattle.asa_text.specs.Words.{line_left}
+use Rattle.asa_text.specs.Readers.{Read}
+use Rattle.asa_members.specs.declared.blocking.BlockKind.{BlockKind}
 use Rattle.asa_members.specs.declared.stating.Item.{Item}
-use Rattle.asa_objects.specs.Tables.{Table, entry_of, named, reaches}
-use Rattle.asa_objects.specs.Ranks.{has_name, refs_in}
+use Rattle.asa_members.specs.declared.stating.ObjectValue.{ObjectValue}
+use Rattle.asa_members.specs.declared.stating.ObjectValue.TheVariants as value
+use Rattle.asa_members.specs.declared.stating.Statement.{Statement}
+use Rattle.asa_members.specs.declared.stating.Statement.TheVariants as says
+use Rattle.asa_members.specs.declared.topping.Top.{Top}
+use Rattle.asa_members.specs.Blocks.{kind_of_block}
+use Rattle.asa_members.specs.Groups.{statement_at}
+use Rattle.asa_objects.specs.declared.faults.ObjectFault.{ObjectFault}
+use Rattle.asa_objects.specs.declared.faults.ObjectFault.TheVariants as fault
+use Rattle.asa_objects.specs.Tables.{Entry, Table, entry_of, items_of, named, reaches, refers_to, known_of}
+use Rattle.asa_objects.specs.Ranks.{IsSound, IsThere, Ranks, Uses, label_of}
 use Rattle.asa_objects.specs.Changing.{Fits}
-use Rattle.asa_objects.proofs.ClimbLaws.{all-push}
+use Rattle.asa_objects.specs.Drafting.{drafted_by}
+use Rattle.asa_objects.specs.Defining.{after_line, after_lines, and_then, has_item, inner_lines, item_of_value, leads_to, read_at, same_item, stated, with_item, without_item}
+use Rattle.asa_objects.proofs.ReachLaws.{test_of, closed-has}
+use Rattle.asa_objects.proofs.RankLaws.{labelled, number, number-falls, number-few}
+use Rattle.asa_objects.proofs.ClimbLaws.{all-push, passes-refers, refers-below}
+use Rattle.asa_objects.proofs.ChangeLaws.{each-ref, from-ref}
+use Rattle.asa_objects.proofs.StateLaws.{Passes, IsKnown, States, states-known}
 
--- a name that is there and isn't among those that reach
-abbrev pub Free : Table → List (List ℕ) → List ℕ → Type 0
-Free t reaching c = (is_some (entry_of t c) ≡ true) × (has_name reaching c ≡ false)
-
-pub all-more : (P : List ℕ → Type 0) (names : List (List ℕ)) (i : ℕ) (d : List ℕ) → i < length names → d ≡ get_or names i d → AllByRecursion P (take i names) → P d → AllByRecursion P (take (i + 1) names)
-all-more P names i d lt is all one =
-    subst (AllByRecursion P) (sym (ap (λ j. take j names) (add-one i) ∙ take-suc names i d lt ∙ ap (λ m. take i names ++ m ∷ []) (sym is))) (all-push P (take i names) d all one)
+all-kept : (P : Item → Type 0) (p : Item → Bool) (xs : List Item) → AllByRecursion P xs → AllByRecursion P (filter p xs)
+all-kept P p [] all = tt
+all-kept P p (x ∷ xs) all = by (p x) (all-kept P p xs all.1)
   where
-    add-one : (j : ℕ) → j + 1 ≡ suc j
-    add-one j = omega arith
+    by : (b : Bool) → AllByRecursion P (filter p xs) → AllByRecursion P (cond b (x ∷ filter p xs) (filter p xs))
+    by true more = (all.0, more)
+    by false more = more
 
-all-first : (P : List ℕ → Type 0) (xs ys : List (List ℕ)) → AllByRecursion P (xs ++ ys) → AllByRecursion P xs
-all-first P [] ys all = tt
-all-first P (x ∷ xs) ys all = (all.0, all-first P xs ys all.1)
+module _ (t : Table) (name : List ℕ) where
+  abbrev pub AllFit : List Item → Type 0
+  AllFit items = AllByRecursion (λ i. Fits t name (named i)) items
 
-all-last : (P : List ℕ → Type 0) (xs ys : List (List ℕ)) → AllByRecursion P (xs ++ ys) → AllByRecursion P ys
-all-last P [] ys all = all
-all-last P (x ∷ xs) ys all = all-last P xs ys all.1
+  fit : (o : Option (List ℕ)) → IsKnown (known_of t) o → test_of (λ c. reaches t c name) o ≡ false → Fits t name o
+  fit None k l = tt
+  fit (Some c) k l = (there (entry_of t c) k, l)
+    where
+      there : (o : Option Entry) → is_some (option_map (λ e. kind_of_block e.block) o) ≡ true → is_some o ≡ true
+      there None h = h
+      there (Some e) h = refl
 
-pub all-fit : (t : Table) (name : List ℕ) (reaching : List (List ℕ)) → ((q : List ℕ) → has_name reaching q ≡ reaches t q name) → (items : List Item)
-    → AllByRecursion (Free t reaching) (refs_in items) → AllByRecursion (λ i. Fits t name (named i)) items
-all-fit t name reaching same [] all = tt
-all-fit t name reaching same (x ∷ xs) all =
-    (fit (named x) (all-first (Free t reaching) (option_to_list (named x)) (refs_in xs) all), all-fit t name reaching same xs (all-last (Free t reaching) (option_to_list (named x)) (refs_in xs) all))
-  where
-    fit : (o : Option (List ℕ)) → AllByRecursion (Free t reaching) (option_to_list o) → Fits t name o
-    fit None h = tt
-    fit (Some c) h = (h.0.0, sym (same c) ∙ h.0.1)
+  single : (v : ObjectValue) → AllFit (item_of_value v ∷ [])
+  single (value.Network m) = (tt, tt)
+  single (value.Service s) = (tt, tt)
+
+  added : (items : List Item) (i : Item) → AllFit items → Fits t name (named i) → AllFit (with_item items i)
+  added items i all one = by (has_item items i)
+    where
+      by : (b : Bool) → AllFit (if b then items else items ++ i ∷ [])
+      by true = all
+      by false = all-push (λ j. Fits t name (named j)) items i all one
+
+  said : (n : ℕ) (items out : List Item) (s : Statement) → AllFit items → States (known_of t) s → stated t name n items s ≡ Ok out → AllFit out
+  said n items out (says.Value v) all k e = let same : item_of_value v ∷ [] ≡ out = cc in subst AllFit same (single v)
+  said n items out (says.Member i) all k e = by (leads_to t name i) refl e
+    where
+      by : (b : Bool) → leads_to t name i ≡ b → (if b then Err (fault.Cycle n) else Ok (with_item items i)) ≡ Ok out → AllFit out
+      by true l h = absurd (cc)
+      by false l h = let same : with_item items i ≡ out = cc in subst AllFit same (added items i all (fit (named i) k l))
+  said n items out (says.Removed i) all k e = by (has_item items i) e
+    where
+      by : (b : Bool) → (if b then Ok (without_item items i) else Err (fault.NoSuchMember n)) ≡ Ok out → AllFit out
+      by true h = let same : without_item items i ≡ out = cc in subst AllFit same (all-kept (λ j. Fits t name (named j)) (λ j. not (same_item i j)) items all)
+      by false h = absurd (cc)
+  said n items out says.Nothing all k e = let same : items ≡ out = cc in subst AllFit same all
+  said n items out says.Nat all k e = absurd (cc)
+  said n items out says.NoNat all k e = absurd (cc)
+
+  line-fits : (kind : BlockKind) (n : ℕ) (items out : List Item) (l : Line) → AllFit items → after_line t name kind n items l ≡ Ok out → AllFit out
+  line-fits kind n items out l all e = by (statement_at (known_of t) kind (line_left l.text)) (states-known (known_of t) kind (line_left l.text)) e
+    where
+      by : (r : Read Statement) → Passes (States (known_of t)) r → and_then (read_at n r) (λ s. stated t name n items s) ≡ Ok out → AllFit out
+      by (Ok read) k h = said n items out read.0 all k h
+      by (Err f) k h = absurd (cc)
+
+  lines-fit : (kind : BlockKind) (n : ℕ) (items out : List Item) (ls : List Line) → AllFit items → after_lines t name kind n items ls ≡ Ok out → AllFit out
+  unfolding after_lines
+  lines-fit kind n items out [] all e = let same : items ≡ out = cc in subst AllFit same all
+  lines-fit kind n items out (l ∷ ls) all e = by (after_line t name kind n items l) refl e (λ next fits h. lines-fit kind (n + 1) next out ls fits h)
+    where
+      by : (r : Result (List Item) ObjectFault) → after_line t name kind n items l ≡ r → and_then r (λ next. after_lines t name kind (n + 1) next ls) ≡ Ok out
+          → ((next : List Item) → AllFit next → after_lines t name kind (n + 1) next ls ≡ Ok out → AllFit out) → AllFit out
+      by (Ok next) here h more = more next (line-fits kind n items next l all here) h
+      by (Err f) here h more = absurd (cc)
+
+  module _ (ranks : Ranks) (uses : Uses) (stamp : ℕ) (sound : IsSound t ranks uses stamp) where
+    -- a name that reaches another has no lesser label
+    above-it : (q : List ℕ) → reaches t q name ≡ true → label_of ranks name ≤ label_of ranks q
+    above-it q r =
+        let ok = labelled t ranks uses stamp sound in
+        leb-true (label_of ranks name) (label_of ranks q)
+        (closed-has named (items_of t) (number t (label_of ranks) ok) (suc (length t)) name (λ p. nat_le (label_of ranks name) (label_of ranks p)) (number-falls t (label_of ranks) ok) (number-few t (label_of ranks) ok)
+        (le-leb (label_of ranks name) (label_of ranks name) (omega arith)) closed (suc (length t)) q (number-few t (label_of ranks) ok q) r)
+      where
+        closed : (p : List ℕ) → list_any (λ i. test_of (λ c. nat_le (label_of ranks name) (label_of ranks c)) (named i)) (items_of t p) ≡ true → nat_le (label_of ranks name) (label_of ranks p) ≡ true
+        closed p any =
+            let c = passes-refers (λ c. nat_le (label_of ranks name) (label_of ranks c)) (items_of t p) any in
+            let le = leb-true (label_of ranks name) (label_of ranks c.0) c.1 in
+            let lt = refers-below (label_of ranks) (label_of ranks p) c.0 (items_of t p) (sound.falls p) c.2 in
+            le-leb (label_of ranks name) (label_of ranks p) (omega (arith, le, lt))
+
+    -- the members that a name has fit
+    former-fit : AllFit (items_of t name)
+    former-fit = each-ref (Fits t name) tt (items_of t name) (λ c r. (from-ref (IsThere t) (items_of t name) c (sound.there name) r, back c r))
+      where
+        back : (c : List ℕ) → list_any (refers_to c) (items_of t name) ≡ true → reaches t c name ≡ false
+        back c r = by (reaches t c name) refl
+          where
+            by : (b : Bool) → reaches t c name ≡ b → reaches t c name ≡ false
+            by false e = e
+            by true e =
+                let le = above-it c e in
+                let lt = refers-below (label_of ranks) (label_of ranks name) c (items_of t name) (sound.falls name) r in
+                absurd (omega (arith, le, lt))
+
+-- so do those that its block leaves it
+pub drafted-fit : (t : Table) (ranks : Ranks) (uses : Uses) (stamp : ℕ) → IsSound t ranks uses stamp → (b : Block) (top : Top) (items : List Item) → drafted_by t b top ≡ Ok items
+    → AllByRecursion (λ i. Fits t top.name (named i)) items
+drafted-fit t ranks uses stamp sound b top items drafted =
+    lines-fit t top.name top.block 2 (items_of t top.name) items (inner_lines b) (former-fit t top.name ranks uses stamp sound) drafted

@@ -12,8 +12,11 @@ pub mod PutLaws
 pub mod ReplaceLaws
 pub mod OpenLaws
 pub mod LineLaws
+pub mod StateLaws
 pub mod FitLaws
 pub mod DefineLaws
 pub mod UserLaws
 pub mod StackLaws
 pub mod DraftLaws
+pub mod KeptLaws
+pub mod LoneLaws

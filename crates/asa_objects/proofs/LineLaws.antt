@@ -20,6 +20,7 @@ ends t name kind n items l ls (fault.Bad i c) new takes = ap (λ s. and_then s (
 ends t name kind n items l ls (fault.Unsupported i c) new takes = ap (λ s. and_then s (λ next. after_lines t name kind (n + 1) next ls)) takes
 ends t name kind n items l ls (fault.Cycle i) new takes = ap (λ s. and_then s (λ next. after_lines t name kind (n + 1) next ls)) takes
 ends t name kind n items l ls (fault.NoSuchMember i) new takes = ap (λ s. and_then s (λ next. after_lines t name kind (n + 1) next ls)) takes
+ends t name kind n items l ls (fault.NotBuilt i) new takes = ap (λ s. and_then s (λ next. after_lines t name kind (n + 1) next ls)) takes
 
 pub refused-at : (t : Table) (name : List ℕ) (kind : BlockKind) (members items : List Item) (lines : List Line) (i : ℕ) (l : Line) (f : ObjectFault) (new : List Item)
     → after_lines t name kind (i + 2) items (drop i lines) ≡ after_lines t name kind 2 members lines → i < length lines → l ≡ get_or lines i l

@@ -142,7 +142,7 @@ module _ (t after : Table) (ranks ranks2 : Ranks) (uses : Uses) (stamp : ℕ) (n
               (subst (λ (o : Option Rank). amount_in members o ≤ 65536) (sym a.2) old.0, subst (λ (o : Option Rank). amount_in services o ≤ 65536) (sym a.2) old.1)
 
 -- a name that isn't there has no users
-no-users : (t : Table) (ranks : Ranks) (uses : Uses) (stamp : ℕ) (name : List ℕ) → IsSound t ranks uses stamp → entry_of t name ≡ None
+pub no-users : (t : Table) (ranks : Ranks) (uses : Uses) (stamp : ℕ) (name : List ℕ) → IsSound t ranks uses stamp → entry_of t name ≡ None
     → (q : List ℕ) → list_any (refers_to name) (items_of t q) ≡ false
 no-users t ranks uses stamp name sound absent q = by (list_any (refers_to name) (items_of t q)) refl
   where

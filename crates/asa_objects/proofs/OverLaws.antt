@@ -6,7 +6,7 @@ use Rattle.std.specs.BTreeMap.{is_at}
 use Rattle.std.specs.Ordering.{nat_cmp}
 use Rattle.std.specs.Cmp.Lexicographic.{slice_cmp}
 use Rattle.std.proofs.lemmas.Bool.{false≢true, leb-true}
-use Rattle.asa_objects.specs.declared.ranking.Totals.{Totals}
+use Rattle.asa_objects.specs.Amounts.{Amounts}
 use Rattle.asa_objects.specs.declared.ranking.Rank.{Rank}
 use Rattle.asa_objects.specs.Tables.{Entry, Table, entry_of, items_of, named, refers_to, same_name, members_of, services_of_name}
 use Rattle.asa_objects.specs.Ranks.{IsBelow, Part, members, prefixes, services, amount, amount_in, Ranks, Uses, label_of, rank_of, has_name}
@@ -189,7 +189,7 @@ over-false t after ranks uses stamp name made names change o =
     there : is_some (rank_of ranks o.name) ≡ true
     there = all-has (λ p. is_some (rank_of ranks p) ≡ true) names o.name change.above.there in-names
 
-    totals : Totals
+    totals : Amounts
     totals = record { members = summed members after o.new ranks o.name; prefixes = summed prefixes after o.new ranks o.name; services = summed services after o.new ranks o.name }
 
     new : Ranks

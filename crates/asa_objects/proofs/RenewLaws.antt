@@ -7,7 +7,7 @@ use Rattle.std.proofs.Math.Seq.{drop-cons, take-suc}
 use Rattle.asa_objects.specs.declared.faults.ObjectFault.{ObjectFault}
 use Rattle.asa_objects.specs.declared.faults.ObjectFault.TheVariants as fault
 use Rattle.asa_members.specs.declared.stating.Item.{Item}
-use Rattle.asa_objects.specs.declared.ranking.Totals.{Totals}
+use Rattle.asa_objects.specs.Amounts.{Amounts}
 use Rattle.asa_objects.specs.declared.ranking.Rank.{Rank}
 use Rattle.asa_objects.specs.Spreads.{total, weight_of}
 use Rattle.asa_objects.specs.Tables.{Table, items_of, named, same_name, entry_of, group_at}
@@ -57,7 +57,7 @@ renew-start t ranks stamp new empty = record {
     none q = ap (λ (r : Ranks). is_some (rank_of r q)) empty
 
 module _ (t : Table) (ranks : Ranks) (stamp : ℕ) (before : List (List ℕ)) (n : List ℕ) (after : List (List ℕ)) (laid : IsLaid t ranks (before ++ n ∷ after))
-    (new made : Ranks) (label : ℕ) (totals : Totals) (renewed : IsRenewed t ranks stamp before new label) (sums : AreSums t new ranks n totals)
+    (new made : Ranks) (label : ℕ) (totals : Amounts) (renewed : IsRenewed t ranks stamp before new label) (sums : AreSums t new ranks n totals)
     (put : (q : List ℕ) → rank_of made q ≡ cond (same_name n q) (Some (record { label = label; totals = totals })) (rank_of new q)) where
   -- a name is the new one, or was renewed before
   abbrev Case : List ℕ → Type 0
@@ -188,7 +188,7 @@ cut-at : (xs : List (List ℕ)) (i : ℕ) (d : List ℕ) → i < length xs → x
 cut-at xs i d lt = sym (take-append-drop i xs) ∙ ap (λ r. take i xs ++ r) (drop-cons xs i d lt)
 
 -- the same, as a loop over the names goes
-pub renew-at : (t : Table) (ranks : Ranks) (stamp : ℕ) (names : List (List ℕ)) (i : ℕ) (d n : List ℕ) (new made : Ranks) (label next : ℕ) (totals : Totals)
+pub renew-at : (t : Table) (ranks : Ranks) (stamp : ℕ) (names : List (List ℕ)) (i : ℕ) (d n : List ℕ) (new made : Ranks) (label next : ℕ) (totals : Amounts)
     → i < length names → n ≡ get_or names i d → IsLaid t ranks names → IsRenewed t ranks stamp (take i names) new label × AreSmall new
     → (AreSums t new ranks n totals × (totals.members ≤ 65536) × (totals.services ≤ 65536))
     → ((q : List ℕ) → rank_of made q ≡ cond (same_name n q) (Some (record { label = label; totals = totals })) (rank_of new q)) → next ≡ label + 1
@@ -224,3 +224,4 @@ overfull-at t ranks stamp names i d n new label (fault.Bad l c) lt is renewed ov
 overfull-at t ranks stamp names i d n new label (fault.Unsupported l c) lt is renewed over = over
 overfull-at t ranks stamp names i d n new label (fault.Cycle l) lt is renewed over = over
 overfull-at t ranks stamp names i d n new label (fault.NoSuchMember l) lt is renewed over = over
+overfull-at t ranks stamp names i d n new label (fault.NotBuilt l) lt is renewed over = over

@@ -108,6 +108,7 @@ replace-same t after ranks uses uses2 stamp name names refs (fault.Bad l c) soun
 replace-same t after ranks uses uses2 stamp name names refs (fault.Unsupported l c) sound p = absurd p
 replace-same t after ranks uses uses2 stamp name names refs (fault.Cycle l) sound p = absurd p
 replace-same t after ranks uses uses2 stamp name names refs (fault.NoSuchMember l) sound p = absurd p
+replace-same t after ranks uses uses2 stamp name names refs (fault.NotBuilt l) sound p = absurd p
 
 -- the answer to a change that is refused
 pub replace-refused : (t after new : Table) (ranks : Ranks) (uses uses2 : Uses) (stamp : ℕ) (name : List ℕ) (made : Entry) (names refs : List (List ℕ)) (f : ObjectFault)
@@ -122,6 +123,7 @@ replace-refused t after new ranks uses uses2 stamp name made names refs (fault.B
 replace-refused t after new ranks uses uses2 stamp name made names refs (fault.Unsupported l c) change is back p = absurd p
 replace-refused t after new ranks uses uses2 stamp name made names refs (fault.Cycle l) change is back p = absurd p
 replace-refused t after new ranks uses uses2 stamp name made names refs (fault.NoSuchMember l) change is back p = absurd p
+replace-refused t after new ranks uses uses2 stamp name made names refs (fault.NotBuilt l) change is back p = absurd p
 
 -- a copy of the users of names has the same users
 pub copied-users : (old new : Uses) → AllZip (λ (p q : List ℕ × BTreeSet (List ℕ)). (q.0 ≡ p.0) × AllZip (λ (a b : List ℕ). b ≡ a) p.1.keys q.1.keys) old new → SameUsers old new

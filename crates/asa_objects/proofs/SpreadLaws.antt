@@ -1,7 +1,8 @@
 -- What a name gives doesn't depend on the length of the ways once that is above the name's label, where each item leads
 -- to a name of a lesser label; and it is what its items give.
 use Rattle.std.proofs.Common.{◌≡◌, ℕ, ◌+◌, ◌<◌, suc, zero, List, [], ◌∷◌, ◌++◌, Option, Some, None, refl, sym, ap, ◌∙◌, arith}
-use Rattle.std.specs.List.{flat_map, AllByRecursion}
+use Rattle.std.specs.List.{flat_map, sum_by, AllByRecursion}
+use Rattle.std.proofs.lemmas.List.Sums.{sum_by-cons}
 use Rattle.asa_objects.specs.Spreads.{of_name, spread, total, weight_of}
 
 module _ {I X : Type 0} where
@@ -49,6 +50,10 @@ module _ {I X : Type 0} (named : I → Option (List ℕ)) (items : List ℕ → 
       flat_map-same _ _ (items q) (each n (suc n) q (λ p lt. spread-enough falls n (suc n) p (omega arith) (omega arith)) (items q) (falls q))
 
 module _ {X : Type 0} (h : X → ℕ) where
+  pub total-sum : (xs : List X) → total h xs ≡ sum_by h xs
+  total-sum [] = refl
+  total-sum (x ∷ xs) = ap (λ n. h x + n) (total-sum xs) ∙ sym (sum_by-cons h x xs)
+
   pub total-append : (xs ys : List X) → total h (xs ++ ys) ≡ total h xs + total h ys
   total-append [] ys = omega arith
   total-append (x ∷ xs) ys = let more = total-append xs ys in omega arith

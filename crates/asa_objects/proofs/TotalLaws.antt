@@ -3,7 +3,7 @@ use Rattle.std.proofs.Common.{◌≡◌, ℕ, ◌+◌, ◌<◌, ◌≤◌, ◌�
 use Rattle.std.specs.Option.{option_to_list}
 use Rattle.std.proofs.lemmas.Bool.{leb-true, and_parts}
 use Rattle.asa_members.specs.declared.stating.Item.{Item}
-use Rattle.asa_objects.specs.declared.ranking.Totals.{Totals}
+use Rattle.asa_objects.specs.Amounts.{Amounts}
 use Rattle.asa_objects.specs.declared.ranking.Rank.{Rank}
 use Rattle.asa_objects.specs.Spreads.{total, weight_of}
 use Rattle.asa_objects.specs.Tables.{Entry, Table, entry_of, items_in, named, group_of, group_at}
@@ -35,7 +35,7 @@ total-alike : {X : Type 0} (f g : X → ℕ) → ((x : X) → f x ≡ g x) → (
 total-alike f g h [] = refl
 total-alike f g h (x ∷ xs) = let here = h x in let more = total-alike f g h xs in omega arith
 
-amount-both : (k : Part) (s t : Totals) → amount k (both_totals s t) ≡ amount k s + amount k t
+amount-both : (k : Part) (s t : Amounts) → amount k (both_totals s t) ≡ amount k s + amount k t
 amount-both members s t = refl
 amount-both prefixes s t = refl
 amount-both services s t = refl
@@ -82,7 +82,7 @@ and-false a b h = by (nat_le a 65536) (nat_le b 65536) (leb-less a) (leb-less b)
     by true false f g e = inr (g refl)
     by true true f g e = absurd (cc)
 
-pub over-from : (t : Table) (new ranks : Ranks) (name : List ℕ) (totals : Totals) → AreSums t new ranks name totals
+pub over-from : (t : Table) (new ranks : Ranks) (name : List ℕ) (totals : Amounts) → AreSums t new ranks name totals
     → (nat_le totals.members 65536 && nat_le totals.services 65536) ≡ false → IsOver t new ranks name
 over-from t new ranks name totals sums h = by (and-false totals.members totals.services h)
   where
@@ -91,7 +91,7 @@ over-from t new ranks name totals sums h = by (and-false totals.members totals.s
     by (inr lt) = inr (subst (λ n. 65536 < n) (sums services) lt)
 
 -- the same as the code tells it
-pub sums-small : (t : Table) (new ranks : Ranks) (name : List ℕ) (e : Entry) (totals : Totals) (b : Bool) → Some e ≡ entry_of t name
+pub sums-small : (t : Table) (new ranks : Ranks) (name : List ℕ) (e : Entry) (totals : Amounts) (b : Bool) → Some e ≡ entry_of t name
     → totals ≡ both_totals (totals_in (group_of e.block) e.items) (ref_totals new ranks (refs_in e.items))
     → b ≡ (nat_le totals.members 65536 && nat_le totals.services 65536) → b ≡ true
     → AreSums t new ranks name totals × (totals.members ≤ 65536) × (totals.services ≤ 65536)
@@ -99,7 +99,7 @@ sums-small t new ranks name e totals b found is test true-is =
     let parts = and_parts (nat_le totals.members 65536) (nat_le totals.services 65536) (sym test ∙ true-is) in
     (λ k. ap (amount k) is ∙ sums-there t new ranks name e (sym found) k, leb-true _ _ parts.0, leb-true _ _ parts.1)
 
-pub sums-over : (t : Table) (new ranks : Ranks) (name : List ℕ) (e : Entry) (totals : Totals) (b : Bool) → Some e ≡ entry_of t name
+pub sums-over : (t : Table) (new ranks : Ranks) (name : List ℕ) (e : Entry) (totals : Amounts) (b : Bool) → Some e ≡ entry_of t name
     → totals ≡ both_totals (totals_in (group_of e.block) e.items) (ref_totals new ranks (refs_in e.items))
     → b ≡ (nat_le totals.members 65536 && nat_le totals.services 65536) → b ≡ false → IsOver t new ranks name
 sums-over t new ranks name e totals b found is test false-is =

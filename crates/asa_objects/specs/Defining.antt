@@ -77,8 +77,8 @@ stated t name n items (says.Value v) = Ok (item_of_value v ∷ [])
 stated t name n items (says.Member i) = if leads_to t name i then Err (fault.Cycle n) else Ok (with_item items i)
 stated t name n items (says.Removed i) = if has_item items i then Ok (without_item items i) else Err (fault.NoSuchMember n)
 stated t name n items says.Nothing = Ok items
-stated t name n items says.Nat = Ok items
-stated t name n items says.NoNat = Ok items
+stated t name n items says.Nat = Err (fault.NotBuilt n)
+stated t name n items says.NoNat = Err (fault.NotBuilt n)
 
 -- what a reader gave of line n
 abbrev pub read_at : {X : Type 0} → ℕ → Read X → Result X ObjectFault
@@ -128,13 +128,14 @@ completed t top missing items =
 abbrev pub begun : Table → Top → Table
 begun t top = with_entry t top.name (record { block = top.block; items = [] })
 
+-- the table in which the first line's name is defined, where the name stands for this already
+abbrev pub opened_from : Table → Top → Option Entry → Result Table ObjectFault
+opened_from t top None = Ok (begun t top)
+opened_from t top (Some entry) = if same_block entry.block top.block then Ok t else Err fault.NameTaken
+
 -- the table in which the first line's name is defined: as it was, or new
 abbrev pub opened : Table → Top → Result Table ObjectFault
-opened t top = of_entry (entry_of t top.name)
-  where
-    of_entry : Option Entry → Result Table ObjectFault
-    of_entry None = Ok (begun t top)
-    of_entry (Some entry) = if same_block entry.block top.block then Ok t else Err fault.NameTaken
+opened t top = opened_from t top (entry_of t top.name)
 
 -- the top line and the indented lines of a block
 abbrev pub top_text : Block → List ℕ

@@ -1,4 +1,5 @@
 pub mod Spreads
+pub mod Amounts
 pub mod Tables
 pub mod Defining
 pub mod Ranks
@@ -10,3 +11,4 @@ pub mod Drafting
 pub mod Expanding
 pub mod Stacks
 pub mod Marks
+pub mod Keeping

@@ -12,7 +12,7 @@ use Rattle.asa_base.specs.Prefixes.{member_prefix_count}
 use Rattle.asa_members.specs.declared.stating.Item.{Item}
 use Rattle.asa_members.specs.declared.blocking.GroupKind.{GroupKind}
 use Rattle.asa_members.specs.Items.{item_services}
-use Rattle.asa_objects.specs.declared.ranking.Totals.{Totals}
+use Rattle.asa_objects.specs.Amounts.{Amounts}
 use Rattle.asa_objects.specs.declared.ranking.Rank.{Rank}
 use Rattle.asa_objects.specs.Spreads.{total, weight_of}
 use Rattle.asa_objects.specs.Tables.{Table, entry_of, items_of, named, own_members, group_at, refers_to}
@@ -23,23 +23,23 @@ pub data Part : Type 0 where
   prefixes : Part
   services : Part
 
-abbrev pub amount : Part → Totals → ℕ
+abbrev pub amount : Part → Amounts → ℕ
 amount members t = t.members
 amount prefixes t = t.prefixes
 amount services t = t.services
 
-abbrev pub no_totals : Totals
+abbrev pub no_totals : Amounts
 no_totals = record { members = 0; prefixes = 0; services = 0 }
 
-abbrev pub both_totals : Totals → Totals → Totals
+abbrev pub both_totals : Amounts → Amounts → Amounts
 both_totals s t = record { members = s.members + t.members; prefixes = s.prefixes + t.prefixes; services = s.services + t.services }
 
 -- how much a member states by itself, at a name of that form
-abbrev pub own_totals : GroupKind → Item → Totals
+abbrev pub own_totals : GroupKind → Item → Amounts
 own_totals g i = record { members = length (own_members i); prefixes = total member_prefix_count (own_members i); services = length (item_services g i) }
 
 -- how much members state by themselves together
-abbrev pub totals_in : GroupKind → List Item → Totals
+abbrev pub totals_in : GroupKind → List Item → Amounts
 totals_in g items = record {
   members = total (λ i. (own_totals g i).members) items;
   prefixes = total (λ i. (own_totals g i).prefixes) items;

@@ -1,7 +1,7 @@
 -- New totals and labels of the names that reach a name, one after another, each from those that are new already.
 use Rattle.std.specs.Prelude.{◌≡◌, ℕ, ◌<◌, ◌≤◌, ◌⊎◌, true, List, ◌∷◌, ◌++◌, Option, Some, None, Result, Ok, Err, is_some}
 use Rattle.std.specs.List.{AllByRecursion}
-use Rattle.asa_objects.specs.declared.ranking.Totals.{Totals}
+use Rattle.asa_objects.specs.Amounts.{Amounts}
 use Rattle.asa_objects.specs.declared.ranking.Rank.{Rank}
 use Rattle.asa_objects.specs.declared.totaling.Renewed.{Renewed}
 use Rattle.asa_objects.specs.declared.faults.ObjectFault.{ObjectFault}
@@ -23,15 +23,15 @@ rank_now new ranks name = newer (rank_of new name) (rank_of ranks name)
 abbrev pub amount_now : Part → Ranks → Ranks → List ℕ → ℕ
 amount_now k new ranks name = amount_in k (rank_now new ranks name)
 
-abbrev pub totals_in_rank : Option Rank → Totals
+abbrev pub totals_in_rank : Option Rank → Amounts
 totals_in_rank None = no_totals
 totals_in_rank (Some r) = r.totals
 
-abbrev pub totals_now : Ranks → Ranks → List ℕ → Totals
+abbrev pub totals_now : Ranks → Ranks → List ℕ → Amounts
 totals_now new ranks name = totals_in_rank (rank_now new ranks name)
 
 -- the totals of names together
-abbrev pub ref_totals : Ranks → Ranks → List (List ℕ) → Totals
+abbrev pub ref_totals : Ranks → Ranks → List (List ℕ) → Amounts
 ref_totals new ranks names = record {
   members = total (λ q. (totals_now new ranks q).members) names;
   prefixes = total (λ q. (totals_now new ranks q).prefixes) names;
@@ -43,7 +43,7 @@ abbrev pub summed : Part → Table → Ranks → Ranks → List ℕ → ℕ
 summed k t new ranks name = total (weigh k t (amount_now k new ranks) name) (items_of t name)
 
 -- these totals are the sums over a name's members
-abbrev pub AreSums : Table → Ranks → Ranks → List ℕ → Totals → Type 0
+abbrev pub AreSums : Table → Ranks → Ranks → List ℕ → Amounts → Type 0
 AreSums t new ranks name totals = (k : Part) → amount k totals ≡ summed k t new ranks name
 
 -- a name has too many members
@@ -85,7 +85,7 @@ pub record IsOverfull (t : Table) (ranks : Ranks) (stamp : ℕ) (names : List (L
   pub over : IsOver t new ranks name
 
 -- what a sum over a name's members may answer
-abbrev pub Sums : Table → Ranks → Ranks → List ℕ → Result Totals ObjectFault → Type 0
+abbrev pub Sums : Table → Ranks → Ranks → List ℕ → Result Amounts ObjectFault → Type 0
 Sums t new ranks name (Ok totals) = AreSums t new ranks name totals × (totals.members ≤ 65536) × (totals.services ≤ 65536)
 Sums t new ranks name (Err fault.TooMany) = IsOver t new ranks name
 Sums t new ranks name (Err fault.NoMemory) = Unit {0}

@@ -1,10 +1,10 @@
 //! The names that reach a name, found by the names that refer to each, in the order of their labels.
-ghost use Rattle.std.specs.Prelude.{◌≡◌, ℕ, ◌<◌, OnOk, IfOk, true, is_some};
+ghost use Rattle.std.specs.Prelude.{◌≡◌, ℕ, ◌<◌, List, OnOk, IfOk, true, is_some};
 ghost use Rattle.std.specs.BTreeMap.{get};
 ghost use Rattle.std.specs.Ordering.{nat_cmp};
 ghost use Rattle.asa_objects.specs.Climbing.{IsAbove, waits};
-ghost use Rattle.asa_objects.specs.Ranks.{IsSound, label_of, rank_of, users_of};
-ghost use Rattle.asa_objects.specs.Tables.{Table};
+ghost use Rattle.asa_objects.specs.Ranks.{IsSound, has_name, label_of, rank_of, users_of};
+ghost use Rattle.asa_objects.specs.Tables.{reaches};
 
 use crate::ranking::Rank;
 use crate::valuing::Stated;
@@ -74,4 +74,25 @@ pub(crate) fn above(
         floor = label + 1;
     }
     Ok(found)
+}
+
+/// The names that reach a name. None but itself reaches a name that isn't in the table.
+pub(crate) fn reaching(
+    alloc: Global,
+    values: &BTreeMap<Name, Stated>,
+    ranks: &BTreeMap<Name, Rank>,
+    uses: &BTreeMap<Name, BTreeSet<Name>>,
+    stamp: u64,
+    name: &Name,
+) -> Result<Vec<Name>, AllocError>
+    requires { IsSound values.now.entries ranks.now.entries uses.now.entries stamp }
+    ensures { IfOk result (λ v. (q : List ℕ) → has_name v.items q ≡ reaches values.now.entries q name.now) }
+{
+    if ranks.contains_key(name) {
+        let names = above(alloc, values, ranks, uses, stamp, name)?;
+        return Ok(names);
+    }
+    let mut names = Vec::new(alloc);
+    names.push(name.copy())?;
+    Ok(names)
 }

@@ -1,10 +1,9 @@
 //! A block changes the value of a name that is in the table.
 ghost use Rattle.std.specs.Prelude.{◌≡◌, ℕ, ◌+◌, ◌≤◌, List, [], true, false, is_some, None, Some, length, OnOk, OnErr, IfOk};
-ghost use Rattle.std.specs.List.{AllByRecursion};
 ghost use Rattle.asa_objects.specs.Climbing.{IsAbove};
 ghost use Rattle.asa_objects.specs.Defining as spec;
 ghost use Rattle.asa_objects.specs.Drafting as over;
-ghost use Rattle.asa_objects.specs.Ranks.{IsSound, has_name, rank_of};
+ghost use Rattle.asa_objects.specs.Ranks.{IsSound, rank_of};
 ghost use Rattle.asa_objects.specs.Tables.{entry_of, items_of};
 
 use crate::changing::{Kept, replace_value};
@@ -19,7 +18,7 @@ use asa_base::Name;
 use asa_members::{BlockKind, Item, Top};
 use asa_text::Block;
 use std::alloc::{AllocError, Global};
-use std::collections::{BTreeMap, BTreeSet};
+use std::collections::BTreeMap;
 
 /// Whether an object has no value. A group needs none.
 fn lacks_value(block: BlockKind, items: &[Item]) -> bool
@@ -45,34 +44,11 @@ fn former_of(
     }
 }
 
-/// Whether a name is there and isn't among others.
-fn is_apart(values: &BTreeMap<Name, Stated>, reaching: &BTreeSet<Name>, name: &Name) -> bool
-    ensures { result ≡ true → (is_some (entry_of values.now.entries name.now) ≡ true) × (has_name reaching.now.keys name.now ≡ false) }
-{
-    if reaching.contains(name) {
-        return false;
-    }
-    values.contains_key(name)
-}
-
-/// Whether each of the names is there and none of them is among others.
-fn are_apart(values: &BTreeMap<Name, Stated>, reaching: &BTreeSet<Name>, names: &[Name]) -> bool
-    ensures { result ≡ true → AllByRecursion (λ c. (is_some (entry_of values.now.entries c) ≡ true) × (has_name reaching.now.keys c ≡ false)) names.now }
-{
-    for name in names {
-        if !is_apart(values, reaching, name) {
-            return false;
-        }
-    }
-    true
-}
-
 /// What the lines of a block make of the members of a name, and the names that reach that name.
 #[derive(Debug, Drop)]
 struct Drafted {
     draft: Draft,
     names: Vec<Name>,
-    reaching: BTreeSet<Name>,
 }
 
 /// Reads the indented lines of a block.
@@ -106,11 +82,7 @@ fn read_lines(
         former,
         inner_lines(block),
     )?;
-    Ok(Drafted {
-        draft,
-        names,
-        reaching,
-    })
+    Ok(Drafted { draft, names })
 }
 
 /// Takes the block of a name that is in the table. After a refusal all is as before.
@@ -127,11 +99,7 @@ pub(crate) fn change_value(
     ensures answer { spec.Defines result values.old.entries values.new.entries (spec.changed_by values.old.entries block.now top.now) }
 {
     let read = read_lines(alloc, values, kept, block, top)?;
-    let Drafted {
-        draft,
-        names,
-        reaching,
-    } = read;
+    let Drafted { draft, names } = read;
     let items = draft.into_items();
     if lacks_value(top.block, items.as_slice()) {
         return Err(ObjectFault::Bad {
@@ -143,10 +111,6 @@ pub(crate) fn change_value(
         return Err(ObjectFault::TooMany);
     }
     let made = Stated::new(alloc, top.block, items)?;
-    // Each name was looked up as its line was read, so this is never so.
-    if !are_apart(values, &reaching, made.refs()) {
-        return Err(ObjectFault::NoMemory);
-    }
     replace_value(alloc, values, kept, &top.name, made, names.as_slice())
 }
 

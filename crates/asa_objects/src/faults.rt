@@ -17,6 +17,8 @@ pub enum ObjectFault {
     Cycle { line: u32 },
     /// There is no such member to remove.
     NoSuchMember { line: u32 },
+    /// The line `nat ..` or `no nat ..` of a network object isn't built yet.
+    NotBuilt { line: u32 },
     /// There would be more than 16,384 names, or a name with more than 65,536 members.
     TooMany,
     /// Memory ran out.

@@ -1,14 +1,15 @@
 //! What is kept of a name beside its members: its label, which is above those of the names that it refers to, and how many
 //! members it has once it is expanded.
-ghost use Rattle.std.specs.Prelude.{◌≡◌, ◌+◌, IfSome};
+ghost use Rattle.std.specs.Prelude.{◌≡◌, ◌+◌, ◌*◌, ◌≤◌, IfSome};
 ghost use Rattle.asa_objects.specs.Ranks as spec;
 ghost use Rattle.asa_objects.specs.Totalling.{totals_in_rank};
 
 use asa_base::Name;
 use asa_members::{GroupKind, Item};
 use std::collections::BTreeMap;
+use std::marker::Model;
 
-/// How much a name stands for once it is expanded.
+/// How much a name stands for once it is expanded. A member has at most 62 prefixes.
 #[derive(Clone, Copy, Debug, PartialEq, Eq)]
 pub(crate) struct Totals {
     /// Members that are addresses.
@@ -17,6 +18,19 @@ pub(crate) struct Totals {
     pub(crate) prefixes: u64,
     /// Services.
     pub(crate) services: u64,
+}
+
+impl Model for Totals {
+    ghost use Rattle.std.specs.Prelude.{◌*◌, ◌≤◌};
+    ghost use Rattle.asa_objects.specs.Amounts.{Amounts};
+
+    ghost Value = { Amounts };
+
+    ghost view = { λ t. record { members = t.members; prefixes = t.prefixes; services = t.services } };
+
+    ghost invariant = { λ t. t.prefixes ≤ 62 * t.members };
+
+    ghost inverse = { λ v. record { members = v.members; prefixes = v.prefixes; services = v.services } };
 }
 
 /// The label and the totals of a name.
@@ -36,6 +50,14 @@ impl Totals {
             prefixes: 0,
             services: 0,
         }
+    }
+
+    /// The prefixes.
+    pub(crate) fn prefixes(self) -> u64
+        ensures value { result ≡ self.prefixes }
+        ensures few { result ≤ 62 * self.members }
+    {
+        self.prefixes
     }
 
     /// Both together, or None where a number would pass its type's end.

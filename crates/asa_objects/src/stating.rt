@@ -134,7 +134,8 @@ fn take_statement(
             draft.remove(item)?;
             Ok(())
         }
-        Statement::Nothing | Statement::Nat | Statement::NoNat => Ok(()),
+        Statement::Nothing => Ok(()),
+        Statement::Nat | Statement::NoNat => Err(ObjectFault::NotBuilt { line }),
     }
 }
 

@@ -1,14 +1,16 @@
 //! The table of objects and groups.
-ghost use Rattle.std.specs.Prelude.{◌≡◌, ℕ, ◌+◌, ◌≤◌, List, [], true, false, is_some, None, Some, length, OnOk, OnErr, IfOk};
+ghost use Rattle.std.specs.Prelude.{◌≡◌, ℕ, ◌+◌, ◌≤◌, List, [], true, false, is_some, None, Some, length, sum_by, OnOk, OnErr, IfOk};
 ghost use Rattle.asa_objects.specs.Defining as spec;
 ghost use Rattle.asa_objects.specs.Expanding as expanding;
+ghost use Rattle.asa_objects.specs.Keeping.{ForName, KeepsOthers, KeepsRest};
+ghost use Rattle.asa_objects.specs.Ranks.{has_name};
 ghost use Rattle.asa_base.specs.Prefixes.{member_prefix_count};
-ghost use Rattle.asa_objects.specs.Spreads.{total};
 ghost use Rattle.asa_objects.specs.Tables as table;
 
 use crate::changing::{Kept, copy_values};
+use crate::climbing::reaching;
 use crate::defining::define_top;
-use crate::expanding::{ExpandFault, expand_network, expand_service};
+use crate::expanding::{ExpandFault, expand_network, expand_service, list_members, list_services};
 use crate::faults::ObjectFault;
 use crate::knowing::{kind_in, port_proto_in, service_range_in};
 use crate::opening::close_name;
@@ -102,23 +104,42 @@ impl Objects {
 
     /// How many addresses, ranges and networks a name stands for, each counted where it stands.
     pub fn member_count(&self, name: &Name) -> u64
-        ensures { result ≡ length (table.members_of self.now name.now) }
+        ensures value { result ≡ length (table.members_of self.now name.now) }
+        ensures few { result ≤ 65536 }
     {
         totals_of(&self.kept.ranks, name).members
     }
 
     /// How many prefixes the addresses of a name have, each member by itself.
     pub fn prefix_total(&self, name: &Name) -> u64
-        ensures { result ≡ total member_prefix_count (table.members_of self.now name.now) }
+        ensures value { result ≡ sum_by member_prefix_count (table.members_of self.now name.now) }
+        ensures few { result ≤ 4063232 }
     {
-        totals_of(&self.kept.ranks, name).prefixes
+        totals_of(&self.kept.ranks, name).prefixes()
     }
 
     /// How many services a name stands for.
     pub fn service_count(&self, name: &Name) -> u64
-        ensures { result ≡ length (table.services_of_name self.now name.now) }
+        ensures value { result ≡ length (table.services_of_name self.now name.now) }
+        ensures few { result ≤ 65536 }
     {
         totals_of(&self.kept.ranks, name).services
+    }
+
+    /// The addresses that a name stands for, in order. A name that isn't there and one that has none give nothing.
+    pub fn members(&self, alloc: Global, name: &Name) -> Result<Items<Member>, AllocError>
+        ensures { IfOk result (λ ms. ms ≡ table.members_of self.now name.now) }
+    {
+        let members = list_members(alloc, &self.values, &self.kept, name)?;
+        Ok(Items::from(members))
+    }
+
+    /// The services that a name stands for, in order. A name that isn't there and one that has none give nothing.
+    pub fn services(&self, alloc: Global, name: &Name) -> Result<Items<Service>, AllocError>
+        ensures { IfOk result (λ ss. ss ≡ table.services_of_name self.now name.now) }
+    {
+        let services = list_services(alloc, &self.values, &self.kept, name)?;
+        Ok(Items::from(services))
     }
 
     /// The addresses that a network object or group stands for: its members in order, each name in them replaced in its
@@ -152,12 +173,32 @@ impl Objects {
         self.group_using(name).is_some()
     }
 
-    /// Takes a block of an object or of a group, as a whole or not at all; lines `nat ..` and `no nat ..` of a network
-    /// object are passed over. The first line defines its name for the lines after it. After a refusal, and where memory
-    /// runs out, the table is as before.
+    /// The names that reach what a block defines: itself, the groups that name it, those that name these, and so on; none
+    /// where the block's first line can't be read.
+    pub fn reaching(&self, alloc: Global, block: &Block) -> Result<Items<Name>, AllocError>
+        ensures { IfOk result (λ names. ForName block.now (λ name. (q : List ℕ) → has_name names q ≡ table.reaches self.now q name)) }
+    {
+        let names = match top_of(block) {
+            Ok(top) => reaching(
+                alloc,
+                &self.values,
+                &self.kept.ranks,
+                &self.kept.uses,
+                self.kept.stamp,
+                &top.name,
+            )?,
+            Err(_) => Vec::new(alloc),
+        };
+        Ok(Items::from(names))
+    }
+
+    /// Takes a block of an object or of a group, as a whole or not at all. The first line defines its name for the lines
+    /// after it. Lines `nat ..` and `no nat ..` of a network object aren't built yet. After a refusal, and where memory runs
+    /// out, the table is as before.
     #[tactic(auto, unfolding(crate::specs::Defining::defined))]
     pub fn define(&mut self, block: &Block) -> Result<(), ObjectFault>
-        ensures { spec.Defines result self.old self.new (spec.defined self.old block.now) }
+        ensures value { spec.Defines result self.old self.new (spec.defined self.old block.now) }
+        ensures kept { OnOk result (KeepsOthers self.old self.new block.now) }
     {
         let top = top_of(block)?;
         define_top(self.alloc, &mut self.values, &mut self.kept, block, &top)
@@ -168,6 +209,7 @@ impl Objects {
         requires { table.user_of self.old name.now ≡ None }
         ensures found { result ≡ is_some (table.entry_of self.old name.now) }
         ensures value { self.new ≡ table.without_name self.old name.now }
+        ensures kept { KeepsRest self.old self.new name.now }
     {
         close_name(self.alloc, &mut self.values, &mut self.kept, name)
     }

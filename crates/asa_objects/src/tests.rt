@@ -3,7 +3,7 @@ ghost use Rattle.std.specs.Prelude.{◌+◌, ◌<◌, ◌-◌, ◌^◌, length};
 
 use crate::{ExpandFault, ObjectFault, Objects};
 use asa_base::{Addr, Kind, Member, Name, PortProto, PortRange, Service};
-use asa_text::{cut_blocks, push_bytes, push_number};
+use asa_text::{Items, cut_blocks, push_bytes, push_number};
 use std::alloc::Global;
 use std::ops::Range;
 use std::test::Fail;
@@ -32,6 +32,15 @@ fn table(alloc: Global, text: &[u8]) -> Result<Objects, Fail>
     let mut objects = Objects::new(alloc);
     take(alloc, &mut objects, text)?.map_err(|_| "refused")?;
     Ok(objects)
+}
+
+/// The names that reach what the first block of a text defines.
+fn reaching(alloc: Global, objects: &Objects, text: &[u8]) -> Result<Items<Name>, Fail>
+    requires { 1 + length text.now < 2 ^ 32 - 1 }
+{
+    let blocks = cut_blocks(alloc, text, 1)?.map_err(|_| "no blocks")?;
+    let block = blocks.as_slice().first().ok_or("no block")?;
+    Ok(objects.reaching(alloc, block)?)
 }
 
 /// Each number of a range, written between two pieces.
@@ -85,6 +94,36 @@ fn a_group_that_names_one_that_is_not_there_or_itself_is_refused(
 }
 
 #[test]
+fn groups_of_groups_reach_what_a_block_defines(rt: HostRuntime) -> Result<(), Fail> {
+    let objects = table(
+        rt.alloc(),
+        b"object-group network A\nobject-group network B\n group-object A\nobject-group network C\n network-object host 10.0.0.1\n group-object B\nobject-group network D\n network-object host 10.0.0.2\n",
+    )?;
+    let names = reaching(
+        rt.alloc(),
+        &objects,
+        b"object-group network A\n group-object D\n",
+    )?;
+    assert_eq!(rt; names.len(), 3);
+    assert!(rt; names.as_slice().contains(&name(b"A")?));
+    assert!(rt; names.as_slice().contains(&name(b"B")?));
+    assert!(rt; names.as_slice().contains(&name(b"C")?));
+    let top = reaching(rt.alloc(), &objects, b"object-group network C\n")?;
+    assert_eq!(rt; top.len(), 1);
+    assert!(rt; top.as_slice().contains(&name(b"C")?));
+    let new = reaching(
+        rt.alloc(),
+        &objects,
+        b"object-group network E\n group-object A\n",
+    )?;
+    assert_eq!(rt; new.len(), 1);
+    assert!(rt; new.as_slice().contains(&name(b"E")?));
+    let unread = reaching(rt.alloc(), &objects, b"object-group network\n")?;
+    assert!(rt; unread.as_slice().is_empty());
+    Ok(())
+}
+
+#[test]
 fn names_stand_for_their_members_in_order(rt: HostRuntime) -> Result<(), Fail> {
     let objects = table(
         rt.alloc(),
@@ -104,6 +143,20 @@ fn names_stand_for_their_members_in_order(rt: HostRuntime) -> Result<(), Fail> {
     );
     assert_eq!(rt; objects.member_count(&name(b"H")?), 4);
     assert_eq!(rt; objects.prefix_total(&name(b"H")?), 7);
+    assert!(rt; objects.members(rt.alloc(), &name(b"H")?)?.as_slice() == members.as_slice());
+    assert!(rt;
+        objects
+            .members(rt.alloc(), &name(b"S")?)?
+            .as_slice()
+            .is_empty()
+    );
+    assert_eq!(rt; objects.services(rt.alloc(), &name(b"S")?)?.len(), 1);
+    assert!(rt;
+        objects
+            .services(rt.alloc(), &name(b"H")?)?
+            .as_slice()
+            .is_empty()
+    );
     assert_eq!(rt;
         objects.expand_network(&name(b"X")?).err(),
         Some(ExpandFault::Unknown)
@@ -230,6 +283,43 @@ fn blocks_extend_replace_and_take_out(rt: HostRuntime) -> Result<(), Fail> {
     assert_eq!(rt; gone, Ok(()));
     assert!(rt; !objects.is_used(&name(b"A")?));
     assert!(rt; copy.is_used(&name(b"A")?));
+    Ok(())
+}
+
+#[test]
+fn a_nat_line_is_refused_in_the_order_of_lines(rt: HostRuntime) -> Result<(), Fail> {
+    let mut objects = table(rt.alloc(), b"object network A\n host 10.0.0.1\n")?;
+    let alone = take(
+        rt.alloc(),
+        &mut objects,
+        b"object network A\n host 10.0.0.2\n nat (any,any) static 10.0.0.9\n",
+    )?;
+    assert_eq!(rt; alone, Err(ObjectFault::NotBuilt { line: 3 }));
+    let removal = take(rt.alloc(), &mut objects, b"object network A\n no nat x\n")?;
+    assert_eq!(rt; removal, Err(ObjectFault::NotBuilt { line: 2 }));
+    let after_another = take(
+        rt.alloc(),
+        &mut objects,
+        b"object network A\n host x\n nat dynamic interface\n",
+    )?;
+    assert_eq!(rt; after_another, Err(ObjectFault::Bad { line: 2, column: 7 }));
+    let before_another = take(
+        rt.alloc(),
+        &mut objects,
+        b"object network A\n nat dynamic interface\n host x\n",
+    )?;
+    assert_eq!(rt; before_another, Err(ObjectFault::NotBuilt { line: 2 }));
+    let without_value = take(
+        rt.alloc(),
+        &mut objects,
+        b"object network B\n description x\n nat dynamic interface\n",
+    )?;
+    assert_eq!(rt; without_value, Err(ObjectFault::NotBuilt { line: 3 }));
+    assert_eq!(rt; objects.kind_of(&name(b"B")?), None);
+    assert_eq!(rt;
+        objects.members(rt.alloc(), &name(b"A")?)?.as_slice(),
+        [Member::Host(Addr(0x0a00_0001))].as_slice()
+    );
     Ok(())
 }
 

@@ -4,7 +4,9 @@ use Rattle.asa_members.specs.declared.stating.Item.{Item}
 use Rattle.asa_objects.specs.declared.faults.ObjectFault.{ObjectFault}
 use Rattle.asa_objects.specs.declared.faults.ObjectFault.TheVariants as fault
 use Rattle.asa_objects.specs.Defining.{Defines, changed_by, lacks_value}
-use Rattle.asa_objects.proofs.FitLaws.{Free, all-fit}
+use Rattle.asa_objects.specs.Changing.{Fits}
+use Rattle.asa_objects.specs.Tables.{Entry, named}
+use Rattle.asa_objects.proofs.FitLaws.{drafted-fit}
 use Rattle.asa_objects.proofs.DefineLaws.{define-lacks, define-many, define-refused, define-replaced, made_of}
 use Rattle.asa_objects.proofs.defining.change_value.Goals as goal
 
@@ -32,9 +34,10 @@ returns-then-len-gt16384-clause-answer c =
 
 pub replace_value-requires-clause-fits : goal.replace_value-requires-clause-fits
 replace_value-requires-clause-fits c =
-    let ok : c.are_apart.result ≡ true = search rules in
-    all-fit c.args.values.now.entries c.args.top.now.name c.in_ok-read.read.reaching.keys c.in_ok-read.ensures.value.2 c.in_ok-made.made.items
-    (subst (AllByRecursion (Free c.args.values.now.entries c.in_ok-read.read.reaching.keys)) c.refs.ensures (c.are_apart.ensures ok))
+    let items : c.in_ok-made.made.items ≡ c.in_ok-read.read.draft =
+    ap (λ (e : Entry). e.items) (c.in_ok-made.ensures ∙ ap (made_of c.args.top.now.block) c.into_items-items.ensures) in
+    subst (AllByRecursion (λ i. Fits c.args.values.now.entries c.args.top.now.name (named i))) (sym items)
+    (drafted-fit c.args.values.now.entries c.args.kept.now.ranks.entries c.args.kept.now.uses.entries c.args.kept.now.stamp c.requires.sound c.args.block.now c.args.top.now c.in_ok-read.read.draft c.in_ok-read.ensures.value.0)
 
 pub returns-clause-answer : goal.returns-clause-answer
 returns-clause-answer c =

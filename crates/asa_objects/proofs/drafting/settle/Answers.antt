@@ -1,4 +1,4 @@
-use Rattle.std.proofs.Common.{◌≡◌, [], length, sym, arith}
+use Rattle.std.proofs.Common.{◌≡◌, length, sym, arith}
 use Rattle.asa_objects.proofs.DraftLaws.{standing-all, nil-of}
 use Rattle.asa_objects.proofs.drafting.settle.Goals as goal
 

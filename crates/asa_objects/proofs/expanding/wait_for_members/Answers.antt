@@ -8,7 +8,7 @@ use Rattle.asa_objects.proofs.expanding.wait_for_members.Goals as goal
 
 pub returns-then-totals_of-eq0-clause-listed : goal.returns-then-totals_of-eq0-clause-listed
 returns-then-totals_of-eq0-clause-listed c =
-    let zero-is : c.totals_of.result.members ≡ 0 = c.if-totals_of-eq0.true in
+    let zero-is : c.totals_of.result.members ≡ 0 = ap (amount members) (sym c.totals_of-2.view_is) ∙ c.if-totals_of-eq0.true in
     let none : amount_of members c.args.kept.now.ranks.entries c.args.name.now ≡ 0 =
     amount-rank members (rank_of c.args.kept.now.ranks.entries c.args.name.now) ∙ ap (amount members) (sym c.totals_of.ensures) ∙ zero-is in
     ap (λ m. m ++ unwound_members c.args.values.now.entries c.args.stack.now.items)

@@ -9,7 +9,7 @@ use Rattle.asa_objects.proofs.expanding.wait_for_services.Goals as goal
 
 pub returns-then-totals_of-eq0-clause-listed : goal.returns-then-totals_of-eq0-clause-listed
 returns-then-totals_of-eq0-clause-listed c =
-    let zero-is : c.totals_of.result.services ≡ 0 = c.if-totals_of-eq0.true in
+    let zero-is : c.totals_of.result.services ≡ 0 = ap (amount services) (sym c.totals_of-2.view_is) ∙ c.if-totals_of-eq0.true in
     let none : amount_of services c.args.kept.now.ranks.entries c.args.name.now ≡ 0 =
     amount-rank services (rank_of c.args.kept.now.ranks.entries c.args.name.now) ∙ ap (amount services) (sym c.totals_of.ensures) ∙ zero-is in
     ap (λ m. m ++ unwound_services c.args.values.now.entries c.args.stack.now.items)

@@ -1,11 +1,18 @@
-use Rattle.std.proofs.Common.{length, sym, ap, ◌∙◌}
+use Rattle.std.proofs.Common.{length, sym, ap, ◌∙◌, arith}
 use Rattle.asa_objects.specs.Tables.{Table, members_of}
 use Rattle.asa_objects.specs.Ranks.{members, amount, rank_of}
 use Rattle.asa_objects.proofs.RankLaws.{kept-members}
 use Rattle.asa_objects.proofs.TotalLaws.{amount-rank}
 use Rattle.asa_objects.proofs.tabling.Objects.member_count.Goals as goal
 
-pub returns : goal.returns
-returns c = ap (amount members) c.totals_of.ensures ∙ sym (amount-rank members (rank_of c.self.inside.kept.ranks.entries c.args.name.now))
+pub returns-clause-value : goal.returns-clause-value
+returns-clause-value c = ap (amount members) c.result.view_is ∙ ap (amount members) c.totals_of.ensures ∙ sym (amount-rank members (rank_of c.self.inside.kept.ranks.entries c.args.name.now))
     ∙ kept-members c.self.inside.values.entries c.self.inside.kept.ranks.entries c.self.inside.kept.uses.entries c.self.inside.kept.stamp c.self.invariant c.args.name.now
     ∙ ap (λ (t : Table). length (members_of t c.args.name.now)) c.self.view_is
+
+pub returns-clause-few : goal.returns-clause-few
+returns-clause-few c =
+    let kept = amount-rank members (rank_of c.self.inside.kept.ranks.entries c.args.name.now) in
+    let same = ap (amount members) c.result.view_is in
+    let found = ap (amount members) c.totals_of.ensures in
+    omega (arith, (c.self.invariant.small c.args.name.now).0)
