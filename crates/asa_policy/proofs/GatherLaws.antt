@@ -1,5 +1,5 @@
 -- The sides of a list are those where its name is bound.
-use Rattle.std.proofs.Common.{◌≡◌, ℕ, Bool, true, false, not, ◌&&◌, ◌||◌, ◌==◌, List, [], ◌∷◌, ◌++◌, if◌then◌else◌, Option, Some, None, refl, sym, ap, ◌∙◌, subst, arith}
+use Rattle.std.proofs.Common.{◌≡◌, ℕ, Bool, true, false, ◌&&◌, ◌||◌, ◌==◌, List, [], ◌∷◌, ◌++◌, if◌then◌else◌, Some, refl, sym, ap, ◌∙◌, arith}
 use Rattle.std.proofs.Math.Bool.{beq}
 use Rattle.std.specs.List.{list_any}
 use Rattle.std.specs.Map.{lookup}
@@ -7,8 +7,8 @@ use Rattle.std.specs.Str.{bytes_eq}
 use Rattle.std.proofs.lemmas.Bool.{and_parts}
 use Rattle.std.proofs.lemmas.Bool.Decides.{nat_tests}
 use Rattle.asa_access.specs.Lists as access
-use Rattle.asa_config.specs.Settings.{same_side, bound_to}
-use Rattle.asa_policy.specs.Gathering.{is_this, is_bound_at, side_if, sides_among, sides_of}
+use Rattle.asa_config.specs.Settings.{same_side}
+use Rattle.asa_policy.specs.Gathering.{is_this, is_bound_at, binds, side_if, sides_among, sides_of}
 
 abbrev Bound : Type 0
 Bound = (ℕ × Bool) × List ℕ
@@ -44,34 +44,47 @@ no_and : (x : Bool) → x && false ≡ false
 no_and true = refl
 no_and false = refl
 
--- among some bindings, the sides where the name is bound have this side exactly where one of them has it and the name is bound there
+-- the binding has the side, and names the list
+abbrev gives : ℕ × Bool → List ℕ → Bound → Bool
+gives side name b = same_side side b.0 && bytes_eq b.1 name
+
+-- among some bindings, the sides where the name is bound have this side exactly where one of them has it with the name, and the name is bound there
 among : (bound : List Bound) (name : List ℕ) (side : ℕ × Bool) (bs : List Bound)
-    → list_any (access.same_side side) (sides_among bound name bs) ≡ list_any (λ (b : Bound). same_side side b.0) bs && is_bound_at bound name side
+    → list_any (access.same_side side) (sides_among bound name bs) ≡ list_any (gives side name) bs && is_bound_at bound name side
 among bound name side [] = refl
 among bound name side (b ∷ bs) =
-    any_if (access.same_side side) (is_bound_at bound name b.0) b.0 (sides_among bound name bs)
-    ∙ by (same_side side b.0) (access.same_side side b.0) (is_bound_at bound name b.0) (same_side_is side b.0) (λ h. ap (is_bound_at bound name) (side_value side b.0 h)) (among bound name side bs)
+    any_if (access.same_side side) (binds bound name b) b.0 (sides_among bound name bs)
+    ∙ by (same_side side b.0) (access.same_side side b.0) (bytes_eq b.1 name) (is_bound_at bound name b.0) (same_side_is side b.0) (λ h. ap (is_bound_at bound name) (side_value side b.0 h)) (among bound name side bs)
   where
-    by : (same also here : Bool) → also ≡ same → (same ≡ true → is_bound_at bound name side ≡ here)
-        → list_any (access.same_side side) (sides_among bound name bs) ≡ list_any (λ (x : Bound). same_side side x.0) bs && is_bound_at bound name side
-        → ((here && also) || list_any (access.same_side side) (sides_among bound name bs)) ≡ (same || list_any (λ (x : Bound). same_side side x.0) bs) && is_bound_at bound name side
-    by true true true is at rest = sym (at refl)
-    by true true false is at rest = rest ∙ ap (λ x. list_any (λ (y : Bound). same_side side y.0) bs && x) (at refl) ∙ no_and (list_any (λ (y : Bound). same_side side y.0) bs) ∙ sym (at refl)
-    by true false here is at rest = absurd (cc)
-    by false true here is at rest = absurd (cc)
-    by false false true is at rest = rest
-    by false false false is at rest = rest
+    more : Bool
+    more = list_any (gives side name) bs
 
--- where the name is bound at the side, some binding has the side
+    by : (same also named here : Bool) → also ≡ same → (same ≡ true → is_bound_at bound name side ≡ here)
+        → list_any (access.same_side side) (sides_among bound name bs) ≡ more && is_bound_at bound name side
+        → (((named && here) && also) || list_any (access.same_side side) (sides_among bound name bs)) ≡ ((same && named) || more) && is_bound_at bound name side
+    by true true true true is at rest = sym (at refl)
+    by true true true false is at rest = rest ∙ ap (λ x. more && x) (at refl) ∙ no_and more ∙ sym (at refl)
+    by true true false here is at rest = rest
+    by true false named here is at rest = absurd (cc)
+    by false true named here is at rest = absurd (cc)
+    by false false true true is at rest = rest
+    by false false true false is at rest = rest
+    by false false false here is at rest = rest
+
+-- where the name is bound at the side, some binding has the side with the name
 absorbed : (name : List ℕ) (side : ℕ × Bool) (bs : List Bound)
-    → list_any (λ (b : Bound). same_side side b.0) bs && is_this (lookup (same_side side) bs) name ≡ is_this (lookup (same_side side) bs) name
+    → list_any (gives side name) bs && is_this (lookup (same_side side) bs) name ≡ is_this (lookup (same_side side) bs) name
 absorbed name side [] = refl
 absorbed name side (b ∷ bs) = by (same_side side b.0) (absorbed name side bs)
   where
-    by : (same : Bool) → list_any (λ (x : Bound). same_side side x.0) bs && is_this (lookup (same_side side) bs) name ≡ is_this (lookup (same_side side) bs) name
-        → (same || list_any (λ (x : Bound). same_side side x.0) bs) && is_this (if same then Some b.1 else lookup (same_side side) bs) name
+    own : (named : Bool) → (named || list_any (gives side name) bs) && named ≡ named
+    own true = refl
+    own false = no_and (list_any (gives side name) bs)
+
+    by : (same : Bool) → list_any (gives side name) bs && is_this (lookup (same_side side) bs) name ≡ is_this (lookup (same_side side) bs) name
+        → ((same && bytes_eq b.1 name) || list_any (gives side name) bs) && is_this (if same then Some b.1 else lookup (same_side side) bs) name
         ≡ is_this (if same then Some b.1 else lookup (same_side side) bs) name
-    by true rest = refl
+    by true rest = own (bytes_eq b.1 name)
     by false rest = rest
 
 -- a list has the sides where its name is bound

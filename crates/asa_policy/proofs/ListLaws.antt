@@ -1,18 +1,20 @@
--- What is found in the gathered lists is what is found in the lists of the configuration.
-use Rattle.std.proofs.Common.{◌≡◌, ℕ, zero, suc, ◌+◌, Bool, true, false, nat_lt, List, [], ◌∷◌, map, if◌then◌else◌, length, slice_get, slice_index, Option, Some, None, option_and_then, unwrap_or, refl, sym, ap, ◌∙◌, arith}
+-- What is found in the gathered lists, which are those that are bound somewhere, is what is found in all lists of the configuration.
+use Rattle.std.proofs.Common.{◌≡◌, ℕ, zero, suc, ◌+◌, Bool, true, false, cond, nat_lt, List, [], ◌∷◌, map, filter, if◌then◌else◌, slice_get, slice_index, Option, Some, None, option_and_then, unwrap_or, refl, ap, ◌∙◌, arith}
 use Rattle.std.specs.List.{find, position, position_from}
+use Rattle.std.specs.Map.{lookup}
 use Rattle.std.specs.Option.{option_map}
 use Rattle.std.specs.Str.{bytes_eq}
+use Rattle.std.proofs.lemmas.Bool.{or_left, or_right}
 use Rattle.std.proofs.lemmas.Iterator.Adapters.{position_from-zero}
 use Rattle.asa_base.specs.declared.flowing.Packet.{Packet}
 use Rattle.asa_ifaces.specs.declared.holding.Iface.{Iface}
 use Rattle.asa_acl.specs.Lists.{AccessLines}
 use Rattle.asa_access.specs.declared.listing.AccessList.{AccessList}
-use Rattle.asa_access.specs.Rules.{Match, inbound_by, outbound_by}
+use Rattle.asa_access.specs.Rules.{inbound_by, outbound_by}
 use Rattle.asa_access.specs.Lists as access
-use Rattle.asa_config.specs.Settings.{Settings, has_name, list_among, list_bound, list_on, global_list, bound_to}
-use Rattle.asa_policy.specs.Gathering.{is_this, is_bound_at}
-use Rattle.asa_policy.specs.Access.{level_of, level_among, level_at, match_in, covering_under, inbound, outbound, inbound_covering, outbound_covering}
+use Rattle.asa_config.specs.Settings.{Settings, has_name, list_bound, list_on, global_list, bound_to, same_side}
+use Rattle.asa_policy.specs.Gathering.{bound_among, is_bound, is_bound_at, is_on_side, is_this}
+use Rattle.asa_policy.specs.Access.{level_among, level_at, levels_of, match_in, covering_under, inbound, outbound, inbound_covering, outbound_covering}
 
 -- the first place that passes, among values that stand from a place on
 from_place : {X : Type 0} (q : X → Bool) (zs : List X) (n : ℕ) (xs : List X) → ((k : ℕ) → slice_get zs (n + k) ≡ slice_get xs k)
@@ -59,12 +61,34 @@ same_found {X} {Y} {Z} q r f g (x ∷ xs) (y ∷ ys) tests gives =
     by false true e value rest = absurd (cc)
     by false false e value rest = rest
 
--- lists with their entries that stand for the lists of a configuration
+-- lists with their entries that stand for the bound lists of a configuration
 pub record AreGathered (c : Settings) (lists : List AccessList) : Type 0 where
-  pub first : (p : Packet) → map (access.match_of p) lists ≡ map (match_in c p) c.lists
-  pub sides : (side : ℕ × Bool) → map (access.has_side side) lists ≡ map (λ l. is_bound_at c.bound l.name side) c.lists
-  pub named : (name : List ℕ) → map (λ (l : AccessList). bytes_eq name l.name) lists ≡ map (has_name name) c.lists
-  pub covering : (p : Packet) → map (access.covering_in p) lists ≡ map (covering_under c p) c.lists
+  pub first : (p : Packet) → map (access.match_of p) lists ≡ map (match_in c p) (bound_among c c.lists)
+  pub sides : (side : ℕ × Bool) → map (access.has_side side) lists ≡ map (λ l. is_bound_at c.bound l.name side) (bound_among c c.lists)
+  pub named : (name : List ℕ) → map (λ (l : AccessList). bytes_eq name l.name) lists ≡ map (has_name name) (bound_among c c.lists)
+  pub covering : (p : Packet) → map (access.covering_in p) lists ≡ map (covering_under c p) (bound_among c c.lists)
+
+-- the first that passes a test is among those that pass another, where what passes the one passes the other
+kept_found : {X : Type 0} (q r : X → Bool) → ((x : X) → q x ≡ true → r x ≡ true) → (xs : List X) → find q (filter r xs) ≡ find q xs
+kept_found q r keeps [] = refl
+kept_found {X} q r keeps (x ∷ xs) = by (r x) (keeps x) (kept_found q r keeps xs)
+  where
+    passed : (a : Bool) → (a ≡ true → false ≡ true) → find q (filter r xs) ≡ find q xs → find q (filter r xs) ≡ (if a then Some x else find q xs)
+    passed true never rest = let no : false ≡ true = never refl in absurd (cc)
+    passed false never rest = rest
+
+    by : (kept : Bool) → (q x ≡ true → kept ≡ true) → find q (filter r xs) ≡ find q xs → find q (cond kept (x ∷ filter r xs) (filter r xs)) ≡ find q (x ∷ xs)
+    by true keep rest = ap (λ o. if q x then Some x else o) rest
+    by false keep rest = passed (q x) keep rest
+
+-- a list whose name stands at the first binding of a side is bound to some side
+on_side : (bound : List ((ℕ × Bool) × List ℕ)) (name : List ℕ) (side : ℕ × Bool) → is_bound_at bound name side ≡ true → is_on_side bound name ≡ true
+on_side [] name side here = absurd (cc)
+on_side (b ∷ bs) name side here = by (same_side side b.0) (on_side bs name side) here
+  where
+    by : (same : Bool) → (is_bound_at bs name side ≡ true → is_on_side bs name ≡ true) → is_this (if same then Some b.1 else lookup (same_side side) bs) name ≡ true → is_on_side (b ∷ bs) name ≡ true
+    by true rest named = or_left (bytes_eq b.1 name) (is_on_side bs name) named
+    by false rest later = or_right (bytes_eq b.1 name) (is_on_side bs name) (rest later)
 
 -- no list passes a test that fails always
 none_found : {X : Type 0} (xs : List X) → find (λ _. false) xs ≡ None
@@ -79,45 +103,46 @@ bound_list c side = by (bound_to c.bound side)
     by None = none_found c.lists
     by (Some name) = refl
 
-own_list : {Z : Type 0} (c : Settings) (lists : List AccessList) (f : AccessList → Z) (g : AccessLines → Z) (ifc : ℕ) (way : Bool) → AreGathered c lists → map f lists ≡ map g c.lists
+own_list : {Z : Type 0} (c : Settings) (lists : List AccessList) (f : AccessList → Z) (g : AccessLines → Z) (ifc : ℕ) (way : Bool) → AreGathered c lists → map f lists ≡ map g (bound_among c c.lists)
     → option_map f (access.list_at lists (ifc, way)) ≡ option_map g (list_on c ifc way)
 own_list c lists f g ifc way are same =
     ap (option_map f) (at_position (access.has_side (ifc, way)) lists)
-    ∙ same_found (access.has_side (ifc, way)) (λ (l : AccessLines). is_bound_at c.bound l.name (ifc, way)) f g lists c.lists (are.sides (ifc, way)) same
-    ∙ ap (option_map g) (bound_list c (ifc, way))
+    ∙ same_found (access.has_side (ifc, way)) (λ (l : AccessLines). is_bound_at c.bound l.name (ifc, way)) f g lists (bound_among c c.lists) (are.sides (ifc, way)) same
+    ∙ ap (option_map g) (kept_found (λ (l : AccessLines). is_bound_at c.bound l.name (ifc, way)) (is_bound c) (λ l here. or_left (is_on_side c.bound l.name) (is_this c.global l.name) (on_side c.bound l.name (ifc, way) here)) c.lists ∙ bound_list c (ifc, way))
 
 -- the place of the global list
 abbrev pub IsGlobal : Settings → List AccessList → Option ℕ → Type 0
 IsGlobal c lists place = place ≡ option_and_then (λ (name : List ℕ). position (λ (l : AccessList). bytes_eq name l.name) lists) c.global
 
-all_inputs : {Z : Type 0} (c : Settings) (lists : List AccessList) (f : AccessList → Z) (g : AccessLines → Z) (place : Option ℕ) → AreGathered c lists → map f lists ≡ map g c.lists → IsGlobal c lists place
+all_inputs : {Z : Type 0} (c : Settings) (lists : List AccessList) (f : AccessList → Z) (g : AccessLines → Z) (place : Option ℕ) → AreGathered c lists → map f lists ≡ map g (bound_among c c.lists) → IsGlobal c lists place
     → option_map f (access.global_of lists place) ≡ option_map g (global_list c)
-all_inputs c lists f g place are same is = ap (λ o. option_map f (option_and_then (slice_get lists) o)) is ∙ by c.global
+all_inputs c lists f g place are same is = ap (λ o. option_map f (option_and_then (slice_get lists) o)) is ∙ by c.global refl
   where
-    by : (global : Option (List ℕ))
+    by : (global : Option (List ℕ)) → c.global ≡ global
         → option_map f (option_and_then (slice_get lists) (option_and_then (λ (name : List ℕ). position (λ (l : AccessList). bytes_eq name l.name) lists) global))
         ≡ option_map g (list_bound c global)
-    by None = refl
-    by (Some name) =
+    by None told = refl
+    by (Some name) told =
         ap (option_map f) (at_position (λ (l : AccessList). bytes_eq name l.name) lists)
-        ∙ same_found (λ (l : AccessList). bytes_eq name l.name) (has_name name) f g lists c.lists (are.named name) same
+        ∙ same_found (λ (l : AccessList). bytes_eq name l.name) (has_name name) f g lists (bound_among c c.lists) (are.named name) same
+        ∙ ap (option_map g) (kept_found (has_name name) (is_bound c) (λ l here. or_right (is_on_side c.bound l.name) (is_this c.global l.name) (ap (λ o. is_this o l.name) told ∙ here)) c.lists)
 
 -- the level at a place
-level_is : (ifaces : List Iface) (ifc : ℕ) → slice_index (map level_of ifaces) ifc ≡ level_among (slice_get ifaces ifc)
+level_is : (ifaces : List Iface) (ifc : ℕ) → slice_index (levels_of ifaces) ifc ≡ level_among (slice_get ifaces ifc)
 level_is [] ifc = refl
 level_is (i ∷ is) zero = refl
 level_is (i ∷ is) (suc n) = level_is is n
 
 pub inward_is : (c : Settings) (lists : List AccessList) (p : Packet) (egress : ℕ) (place : Option ℕ) → AreGathered c lists → IsGlobal c lists place
-    → access.inbound lists place (map level_of c.net.ifaces) p egress ≡ inbound c p egress
+    → access.inbound lists place (levels_of c.net.ifaces) p egress ≡ inbound c p egress
 unfolding access.inbound inbound level_at
 inward_is c lists p egress place are is =
     let own = own_list c lists (access.match_of p) (match_in c p) p.ifc true are (are.first p) in
     let all = all_inputs c lists (access.match_of p) (match_in c p) place are (are.first p) is in
-    let levels : access.rises (map level_of c.net.ifaces) p.ifc egress ≡ nat_lt (level_among (slice_get c.net.ifaces p.ifc)) (level_among (slice_get c.net.ifaces egress)) =
-    ap (λ n. nat_lt n (slice_index (map level_of c.net.ifaces) egress)) (level_is c.net.ifaces p.ifc) ∙ ap (nat_lt (level_among (slice_get c.net.ifaces p.ifc))) (level_is c.net.ifaces egress) in
-    ap (λ m. inbound_by m (option_map (access.match_of p) (access.global_of lists place)) (access.rises (map level_of c.net.ifaces) p.ifc egress)) own
-    ∙ ap (λ m. inbound_by (option_map (match_in c p) (list_on c p.ifc true)) m (access.rises (map level_of c.net.ifaces) p.ifc egress)) all
+    let levels : access.rises (levels_of c.net.ifaces) p.ifc egress ≡ nat_lt (level_among (slice_get c.net.ifaces p.ifc)) (level_among (slice_get c.net.ifaces egress)) =
+    ap (λ n. nat_lt n (slice_index (levels_of c.net.ifaces) egress)) (level_is c.net.ifaces p.ifc) ∙ ap (nat_lt (level_among (slice_get c.net.ifaces p.ifc))) (level_is c.net.ifaces egress) in
+    ap (λ m. inbound_by m (option_map (access.match_of p) (access.global_of lists place)) (access.rises (levels_of c.net.ifaces) p.ifc egress)) own
+    ∙ ap (λ m. inbound_by (option_map (match_in c p) (list_on c p.ifc true)) m (access.rises (levels_of c.net.ifaces) p.ifc egress)) all
     ∙ ap (inbound_by (option_map (match_in c p) (list_on c p.ifc true)) (option_map (match_in c p) (global_list c))) levels
 
 pub outward_is : (c : Settings) (lists : List AccessList) (p : Packet) (egress : ℕ) → AreGathered c lists → access.outbound lists p egress ≡ outbound c p egress

@@ -1,5 +1,5 @@
 -- One list has no more prefix pairs than all, and what is said of one list more.
-use Rattle.std.proofs.Common.{◌≡◌, ℕ, zero, suc, ◌+◌, ◌≤◌, List, [], ◌∷◌, ◌++◌, append_assoc, map, drop, slice_get, get_or, Some, sum_by, refl, sym, ap, ◌∙◌, subst, arith}
+use Rattle.std.proofs.Common.{◌≡◌, ℕ, zero, suc, ◌+◌, ◌≤◌, Bool, true, false, cond, List, [], ◌∷◌, ◌++◌, append_assoc, map, filter, drop, slice_get, get_or, Some, sum_by, refl, sym, ap, ◌∙◌, arith}
 use Rattle.std.proofs.Math.Seq.{drop-cons}
 use Rattle.std.proofs.lemmas.List.Sums.{sum_by-cons}
 use Rattle.std.proofs.lemmas.Option.{slice_get_within, slice_get-get_or}
@@ -25,9 +25,18 @@ drop_at xs n x e =
     let more : suc n ≡ n + 1 = omega arith in
     drop-cons xs n x within ∙ ap (λ y. y ∷ drop (suc n) xs) same ∙ ap (λ k. x ∷ drop k xs) more
 
--- what is gathered of values so far, and one more
-pub one_more : {X Y : Type 0} (g : X → Y) (xs : List X) (n : ℕ) (x : X) (old new : List Y) → slice_get xs n ≡ Some x → new ≡ old ++ g x ∷ []
-    → old ++ map g (drop n xs) ≡ map g xs → new ++ map g (drop (n + 1) xs) ≡ map g xs
-one_more g xs n x old new at pushed before =
-    ap (λ ys. ys ++ map g (drop (n + 1) xs)) pushed ∙ append_assoc old (g x ∷ []) (map g (drop (n + 1) xs))
-    ∙ ap (λ ys. old ++ map g ys) (sym (drop_at xs n x at)) ∙ before
+-- one value before more of them, of which those count that pass
+first_kept : {X Y : Type 0} (q : X → Bool) (g : X → Y) (x : X) (more : List X) → map g (filter q (x ∷ [])) ++ map g (filter q more) ≡ map g (filter q (x ∷ more))
+first_kept {X} q g x more = by (q x)
+  where
+    by : (kept : Bool) → map g (cond kept (x ∷ []) []) ++ map g (filter q more) ≡ map g (cond kept (x ∷ filter q more) (filter q more))
+    by true = refl
+    by false = refl
+
+-- what is gathered of the values so far that pass, and of one more
+pub one_more : {X Y : Type 0} (q : X → Bool) (g : X → Y) (xs : List X) (n : ℕ) (x : X) (old new : List Y) → slice_get xs n ≡ Some x → new ≡ old ++ map g (filter q (x ∷ []))
+    → old ++ map g (filter q (drop n xs)) ≡ map g (filter q xs) → new ++ map g (filter q (drop (n + 1) xs)) ≡ map g (filter q xs)
+one_more q g xs n x old new at pushed before =
+    ap (λ ys. ys ++ map g (filter q (drop (n + 1) xs))) pushed ∙ append_assoc old (map g (filter q (x ∷ []))) (map g (filter q (drop (n + 1) xs)))
+    ∙ ap (λ ys. old ++ ys) (first_kept q g x (drop (n + 1) xs))
+    ∙ ap (λ ys. old ++ map g (filter q ys)) (sym (drop_at xs n x at)) ∙ before

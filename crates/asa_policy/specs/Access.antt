@@ -1,5 +1,5 @@
 -- What the lists of a configuration and its levels say of a packet: by the first box of a list that holds it.
-use Rattle.std.specs.Prelude.{ℕ, ◌+◌, Bool, nat_lt, List, Option, Some, None, slice_get, unwrap_or}
+use Rattle.std.specs.Prelude.{ℕ, ◌+◌, Bool, nat_lt, List, map, Option, Some, None, slice_get, unwrap_or}
 use Rattle.std.specs.Option.{option_map}
 use Rattle.asa_base.specs.declared.flowing.Packet.{Packet}
 use Rattle.asa_entries.specs.Matching.{boxes_covering, first_box}
@@ -10,22 +10,18 @@ use Rattle.asa_config.specs.Knowing.{boxes_under}
 use Rattle.asa_access.specs.declared.verdicts.AccessVerdict.{AccessVerdict}
 use Rattle.asa_access.specs.Rules.{Match, inbound_by, outbound_by}
 
--- the level of an interface; one without a name counts as 0
-abbrev pub level_of : Iface → ℕ
-level_of i = of_name i.name
-  where
-    of_name : Option (List ℕ) → ℕ
-    of_name None = 0
-    of_name (Some _) = i.level
-
--- the level of an interface, where there is one
+-- the level of an interface, where there is one; the configuration keeps that of one without a name as 0
 abbrev pub level_among : Option Iface → ℕ
 level_among None = 0
-level_among (Some i) = level_of i
+level_among (Some i) = i.level
 
 -- the level of the interface with this number
 unfoldable pub level_at : Settings → ℕ → ℕ
 level_at c ifc = level_among (slice_get c.net.ifaces ifc)
+
+-- the levels of these interfaces, in order
+abbrev pub levels_of : List Iface → List ℕ
+levels_of ifaces = map (λ i. i.level) ifaces
 
 -- a list of the configuration, and the line of it that decides the packet
 abbrev pub match_in : Settings → Packet → AccessLines → Match

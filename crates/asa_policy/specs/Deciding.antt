@@ -139,9 +139,10 @@ aimed c p = noted phase.UnNat (detail.Place None) (checked phase.ToTheBox (to_th
 unfoldable pub decide : Settings → Packet → Verdict
 decide c p = checked phase.State (not_syn p) (aimed c p)
 
--- how many prefix pairs of the lists that a decision asks cover the packet's addresses, by the route
+-- how many prefix pairs of the lists that a decision asks cover the packet's addresses, by the route: without one no list
+-- is asked
 abbrev pub asked_covering : Settings → Packet → Option Candidate → ℕ
-asked_covering c p None = inbound_covering c p
+asked_covering c p None = 0
 asked_covering c p (Some k) = inbound_covering c p + outbound_covering c p k.egress
 
 -- how many sealed values a decision reads at most: 33 nodes of the routes, 3 times 1,122 of the lists, and the entries

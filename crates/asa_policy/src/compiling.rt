@@ -6,7 +6,8 @@ ghost use Rattle.asa_ifaces.specs.Interfaces.{is_named};
 ghost use Rattle.asa_routes.specs.Routing.{route_of};
 ghost use Rattle.asa_policy.specs.Access.{inbound, inbound_covering, outbound, outbound_covering};
 
-use crate::gathering::{access_lists, global_place, levels_of};
+use crate::gathering::{access_lists, global_place};
+use crate::leveling::levels_of;
 use asa_access::{Access, AccessVerdict};
 use asa_base::{Addr, Counter, Packet};
 use asa_config::Config;
@@ -90,6 +91,7 @@ impl Policy {
         ensures value { result ≡ inbound self.now p.now egress }
         ensures reads { c.new ≤ c.old + 2244 + inbound_covering self.now p.now }
     {
+        // Tells the prover that the number is below 256, which it knows of a field behind a reference once that is read.
         let _ifc = p.ifc;
         self.access.inbound(p, egress, c)
     }

@@ -6,8 +6,8 @@ ghost use Rattle.asa_routes.specs.Routing.{route_of};
 ghost use Rattle.asa_policy.specs.Access.{outbound_covering};
 ghost use Rattle.asa_policy.specs.Deciding as spec;
 
-use crate::admitting::level_at;
 use crate::compiling::Policy;
+use crate::leveling::level_at;
 use asa_access::AccessVerdict;
 use asa_base::{AccessBy, Addr, Counter, Packet};
 use asa_config::Config;

@@ -1,4 +1,4 @@
-//! The lists of a configuration, with their entries and the sides that they are bound to.
+//! The lists of a configuration that are bound somewhere, with their entries and the sides that they are bound to.
 ghost use Rattle.std.specs.Prelude.{◌≡◌, ℕ, Bool, List, ◌≤◌, ◌<◌, [], ◌∷◌, ◌++◌, ◌+◌, IfOk, OnOk, IfSome, Some, length, map, option_and_then, position, slice_get};
 ghost use Rattle.std.specs.Option.{option_copied};
 ghost use Rattle.std.specs.Str.{bytes_eq};
@@ -7,16 +7,14 @@ ghost use Rattle.asa_access.specs.Lists.{covering_in, has_side, match_of};
 ghost use Rattle.asa_boxes.specs.Pairs.{list_pairs};
 ghost use Rattle.asa_config.specs.Knowing.{meanings_of};
 ghost use Rattle.asa_config.specs.Settings.{bound_to, has_name, same_side};
-ghost use Rattle.asa_policy.specs.Access.{covering_under, level_of, match_in};
+ghost use Rattle.asa_policy.specs.Access.{covering_under, match_in};
 ghost use Rattle.asa_policy.specs.Gathering as spec;
 
-use crate::admitting::level_of;
 use asa_access::AccessList;
 use asa_acl::Acl;
 use asa_base::Name;
 use asa_config::Config;
 use asa_entries::entries_of;
-use asa_ifaces::Iface;
 use asa_text::Items;
 use std::alloc::{AllocError, Global};
 
@@ -49,17 +47,31 @@ fn is_bound_at(bound: &[((u8, bool), Name)], name: &Name, side: (u8, bool)) -> b
     }
 }
 
-/// Appends the side, if the list of this name is bound to it.
+/// Whether a binding names this list.
+fn names(binding: &((u8, bool), Name), name: &Name) -> bool
+    ensures { result ≡ bytes_eq binding.now.1 name.now }
+{
+    binding.1 == *name
+}
+
+/// Whether a binding names this list, and is the one that counts at its side.
+fn binds(bound: &[((u8, bool), Name)], name: &Name, binding: &((u8, bool), Name)) -> bool
+    ensures { result ≡ spec.binds bound.now name.now binding.now }
+{
+    names(binding, name) && is_bound_at(bound, name, binding.0)
+}
+
+/// Appends the side of a binding, if the list of this name is bound to it.
 fn push_side(
     sides: &mut Items<(u8, bool)>,
     bound: &[((u8, bool), Name)],
     name: &Name,
-    side: (u8, bool),
+    binding: &((u8, bool), Name),
 ) -> Result<(), AllocError>
-    ensures { OnOk result (sides.new ≡ sides.old ++ spec.side_if (spec.is_bound_at bound.now name.now side) side) }
+    ensures { OnOk result (sides.new ≡ sides.old ++ spec.side_if (spec.binds bound.now name.now binding.now) binding.now.0) }
 {
-    if is_bound_at(bound, name, side) {
-        sides.push(side)?;
+    if binds(bound, name, binding) {
+        sides.push(binding.0)?;
     }
     Ok(())
 }
@@ -73,8 +85,8 @@ fn sides_of(
     ensures { IfOk result (λ v. v ≡ spec.sides_of bound.now name.now) }
 {
     let mut sides = Items::new(alloc);
-    for (side, _) in bound {
-        push_side(&mut sides, bound, name, *side)?;
+    for binding in bound {
+        push_side(&mut sides, bound, name, binding)?;
     }
     Ok(sides)
 }
@@ -116,6 +128,50 @@ fn push_list(
     Ok(())
 }
 
+/// Whether the list of this name is bound to a side of an interface.
+fn is_on_side(bound: &[((u8, bool), Name)], name: &Name) -> bool
+    ensures { result ≡ spec.is_on_side bound.now name.now }
+{
+    bound.iter().any(|b| names(b, name))
+}
+
+/// Whether the list of this name is bound to the inbound side of every interface.
+fn is_global(config: &Config, name: &Name) -> bool
+    ensures { result ≡ spec.is_this config.now.global name.now }
+{
+    match config.global() {
+        Some(global) => global == name,
+        None => false,
+    }
+}
+
+/// Whether the list is bound to a side of an interface, or to the inbound side of every one.
+fn is_bound(config: &Config, list: &Acl) -> bool
+    ensures { result ≡ spec.is_bound config.now list.now }
+{
+    is_on_side(config.bindings(), list.name()) || is_global(config, list.name())
+}
+
+/// Appends a list, with its entries and its sides, if it is bound somewhere.
+fn push_bound(
+    alloc: Global,
+    lists: &mut Vec<AccessList>,
+    config: &Config,
+    list: &Acl,
+) -> Result<(), AllocError>
+    requires { list_pairs (meanings_of config.now) list.now.lines ≤ 262144 }
+    ensures first { OnOk result ((p : AnyPacket) → map (match_of p) lists.new.items ≡ map (match_of p) lists.old.items ++ map (match_in config.now p) (spec.bound_among config.now (list.now ∷ []))) }
+    ensures sides { OnOk result ((side : ℕ × Bool) → map (has_side side) lists.new.items ≡ map (has_side side) lists.old.items ++ map (λ l. spec.is_bound_at config.now.bound l.name side) (spec.bound_among config.now (list.now ∷ []))) }
+    ensures named { OnOk result ((name : List ℕ) → map (λ l. bytes_eq name l.name) lists.new.items ≡ map (λ l. bytes_eq name l.name) lists.old.items ++ map (has_name name) (spec.bound_among config.now (list.now ∷ []))) }
+    ensures covering { OnOk result ((p : AnyPacket) → map (covering_in p) lists.new.items ≡ map (covering_in p) lists.old.items ++ map (covering_under config.now p) (spec.bound_among config.now (list.now ∷ []))) }
+    ensures most { OnOk result (length lists.new.items ≤ length lists.old.items + 1) }
+{
+    if is_bound(config, list) {
+        push_list(alloc, lists, config, list)?;
+    }
+    Ok(())
+}
+
 /// The n-th list of a configuration, from 0.
 fn nth_list(config: &Config, n: u32) -> &Acl
     requires { n < length config.now.lists }
@@ -127,21 +183,21 @@ fn nth_list(config: &Config, n: u32) -> &Acl
     }
 }
 
-/// The lists of a configuration, with their entries and the sides that they are bound to.
+/// The lists of a configuration that are bound somewhere, with their entries and the sides that they are bound to.
 pub(crate) fn access_lists(alloc: Global, config: &Config) -> Result<Vec<AccessList>, AllocError>
-    ensures first { IfOk result (λ v. (p : AnyPacket) → map (match_of p) v.items ≡ map (match_in config.now p) config.now.lists) }
-    ensures sides { IfOk result (λ v. (side : ℕ × Bool) → map (has_side side) v.items ≡ map (λ l. spec.is_bound_at config.now.bound l.name side) config.now.lists) }
-    ensures named { IfOk result (λ v. (name : List ℕ) → map (λ l. bytes_eq name l.name) v.items ≡ map (has_name name) config.now.lists) }
-    ensures covering { IfOk result (λ v. (p : AnyPacket) → map (covering_in p) v.items ≡ map (covering_under config.now p) config.now.lists) }
+    ensures first { IfOk result (λ v. (p : AnyPacket) → map (match_of p) v.items ≡ map (match_in config.now p) (spec.bound_among config.now config.now.lists)) }
+    ensures sides { IfOk result (λ v. (side : ℕ × Bool) → map (has_side side) v.items ≡ map (λ l. spec.is_bound_at config.now.bound l.name side) (spec.bound_among config.now config.now.lists)) }
+    ensures named { IfOk result (λ v. (name : List ℕ) → map (λ l. bytes_eq name l.name) v.items ≡ map (has_name name) (spec.bound_among config.now config.now.lists)) }
+    ensures covering { IfOk result (λ v. (p : AnyPacket) → map (covering_in p) v.items ≡ map (covering_under config.now p) (spec.bound_among config.now config.now.lists)) }
     ensures few { IfOk result (λ v. length v.items ≤ 1024) }
 {
     let few = config.list_count();
-    let pairs = config.pair_count();
-    let _ = pairs;
-    let mut lists = Vec::with_capacity(alloc, few as usize)?;
+    // Tells the prover that the prefix pairs of all lists are at most 262,144, so those of each list are too.
+    let _pairs = config.pair_count();
+    let mut lists = Vec::new(alloc);
     for n in 0..few {
         let list = nth_list(config, n);
-        push_list(alloc, &mut lists, config, list)?;
+        push_bound(alloc, &mut lists, config, list)?;
     }
     Ok(lists)
 }
@@ -173,11 +229,4 @@ pub(crate) fn global_place(config: &Config, lists: &[AccessList]) -> Option<u32>
         },
         None => None,
     }
-}
-
-/// The levels of the interfaces.
-pub(crate) fn levels_of(alloc: Global, ifaces: &[Iface]) -> Result<Vec<u8>, AllocError>
-    ensures { IfOk result (λ v. v.items ≡ map level_of ifaces.now) }
-{
-    ifaces.iter().map(|i| level_of(i)).collect(alloc)
 }

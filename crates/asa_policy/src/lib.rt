@@ -1,10 +1,10 @@
 //! The access policy: a configuration compiled for deciding flows, and the decision of a packet step by step.
 #![tactic(auto)]
 
-mod admitting;
 mod compiling;
 mod deciding;
 mod gathering;
+mod leveling;
 #[cfg(test)]
 mod tests;
 

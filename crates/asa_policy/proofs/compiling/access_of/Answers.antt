@@ -1,11 +1,11 @@
 -- The compiled lists stand for those of the configuration, and the levels for its levels.
-use Rattle.std.proofs.Common.{◌≡◌, map, ap, ◌∙◌, List, ℕ, option_and_then}
+use Rattle.std.proofs.Common.{◌≡◌, ap, ◌∙◌, List, ℕ, option_and_then}
 use Rattle.std.specs.List.{position}
 use Rattle.std.specs.Str.{bytes_eq}
 use Rattle.asa_ifaces.specs.Interfaces.{Interfaces}
 use Rattle.asa_access.specs.declared.listing.AccessList.{AccessList}
 use Rattle.asa_access.specs.Lists as access
-use Rattle.asa_policy.specs.Access.{level_of}
+use Rattle.asa_policy.specs.Access.{levels_of}
 use Rattle.asa_policy.proofs.ListLaws.{AreGathered, IsGlobal, inward_is, outward_is, inward_covers, outward_covers}
 use Rattle.asa_policy.proofs.compiling.access_of.Goals as goal
 
@@ -16,8 +16,8 @@ returns-clause-inward c p egress below =
     let are : AreGathered config lists = record { first = c.in_ok-lists.ensures.first; sides = c.in_ok-lists.ensures.sides; named = c.in_ok-lists.ensures.named; covering = c.in_ok-lists.ensures.covering } in
     let is : IsGlobal config lists c.global_place-global.result =
     c.global_place-global.ensures ∙ ap (λ (ls : List AccessList). option_and_then (λ (name : List ℕ). position (λ (l : AccessList). bytes_eq name l.name) ls) config.global) c.as_slice.ensures.value in
-    let levels : c.in_ok-levels.levels.items ≡ map level_of config.net.ifaces =
-    c.in_ok-levels.ensures ∙ ap (map level_of) (c.ifaces-2.ensures.value ∙ ap (λ (n : Interfaces). n.ifaces) c.ifaces.ensures) in
+    let levels : c.in_ok-levels.levels.items ≡ levels_of config.net.ifaces =
+    c.in_ok-levels.ensures ∙ ap levels_of (c.ifaces-2.ensures.value ∙ ap (λ (n : Interfaces). n.ifaces) c.ifaces.ensures) in
     c.in_ok-access.ensures.inbound p egress below
     ∙ ap (λ (ls : List AccessList). access.inbound ls c.global_place-global.result c.in_ok-levels.levels.items p egress) c.as_slice-2.ensures.value
     ∙ ap (λ (lv : List ℕ). access.inbound lists c.global_place-global.result lv p egress) levels

@@ -3,5 +3,5 @@ use Rattle.std.proofs.Common.{◌≡◌, ◌++◌, drop}
 use Rattle.asa_policy.specs.Gathering.{sides_among, sides_of}
 use Rattle.asa_policy.proofs.gathering.sides_of.Given as goal
 
-abbrev pub invariant-loop-side : goal.invariant-loop-side
-invariant-loop-side l = l.sides ++ sides_among l.bound l.name (drop l.side-index l.bound) ≡ sides_of l.bound l.name
+abbrev pub invariant-loop-binding : goal.invariant-loop-binding
+invariant-loop-binding l = l.sides ++ sides_among l.bound l.name (drop l.binding-index l.bound) ≡ sides_of l.bound l.name
