@@ -1,15 +1,16 @@
 -- What becomes of the bindings where one takes the place of another or goes.
-use Rattle.std.proofs.Common.{◌≡◌, ℕ, ◌+◌, ◌<◌, Bool, true, false, cond, nat_lt, ◌&&◌, if◌then◌else◌, List, [], ◌∷◌, ◌++◌, length, take, drop, get_or, Option, Some, None, is_some, Result, Ok, Err, OnOk, OnErr, refl, sym, ap, subst, ◌∙◌, suc}
+use Rattle.std.proofs.Common.{◌≡◌, ℕ, ◌<◌, Bool, true, false, nat_lt, if◌then◌else◌, List, [], ◌∷◌, ◌++◌, length, take, drop, get_or, Option, is_some, Result, Ok, Err, OnOk, OnErr, refl, sym, ap, subst, ◌∙◌, suc}
 use Rattle.std.proofs.Math.ListN.{set}
 use Rattle.std.proofs.Math.Seq.{drop-cons}
 use Rattle.std.proofs.lemmas.List.{set_split}
 use Rattle.std.proofs.lemmas.Bool.{lt-ltb, and_parts, and_from}
 use Rattle.std.specs.List.{list_all, remove}
 use Rattle.asa_ifaces.specs.Interfaces.{Interfaces}
+use Rattle.asa_objects.specs.Tables.{Table}
 use Rattle.asa_config.specs.Settings.{same_side, list_among}
 use Rattle.asa_config.specs.Counted.{Counted, lists_in}
 use Rattle.asa_config.specs.Groups.{with_side, without_side}
-use Rattle.asa_config.specs.Soundness.{IsKept, all_within, all_defined, is_global_defined}
+use Rattle.asa_config.specs.Soundness.{IsKept, is_global_defined}
 
 abbrev Bound : Type 0
 Bound = List ((ℕ × Bool) × List ℕ)
@@ -52,24 +53,24 @@ list_all-without_side p (b ∷ bs) side all =
     by false first rest more = and_from (p b) (list_all p (without_side bs side)) first more
 
 -- a further binding
-pub kept_bound : {E : Type 0} (r : Result (Unit {0}) E) (net : Interfaces) (ts : List Counted) (bs new : Bound) (global : Option (List ℕ)) (side : ℕ × Bool) (name : List ℕ) → IsKept net ts bs global
-    → side.0 < length net.ifaces → is_some (list_among (lists_in ts) name) ≡ true → OnOk r (new ≡ with_side bs side name) → OnErr r (new ≡ bs) → IsKept net ts new global
-kept_bound (Ok x) net ts bs new global side name kept within there ok err = subst (λ b. IsKept net ts b global) (sym ok) (record {
+pub kept_bound : {E : Type 0} (r : Result (Unit {0}) E) (objects : Table) (net : Interfaces) (ts : List Counted) (bs new : Bound) (global : Option (List ℕ)) (side : ℕ × Bool) (name : List ℕ) → IsKept objects net ts bs global
+    → side.0 < length net.ifaces → is_some (list_among (lists_in ts) name) ≡ true → OnOk r (new ≡ with_side bs side name) → OnErr r (new ≡ bs) → IsKept objects net ts new global
+kept_bound (Ok x) objects net ts bs new global side name kept within there ok err = subst (λ b. IsKept objects net ts b global) (sym ok) (record {
   counted = kept.counted;
   within = list_all-with_side (λ b. nat_lt b.0.0 (length net.ifaces)) bs side name kept.within (lt-ltb side.0 (length net.ifaces) within);
   defined = list_all-with_side (λ b. is_some (list_among (lists_in ts) b.1)) bs side name kept.defined there;
   global_defined = kept.global_defined;
 })
-kept_bound (Err e) net ts bs new global side name kept within there ok err = subst (λ b. IsKept net ts b global) (sym err) kept
+kept_bound (Err e) objects net ts bs new global side name kept within there ok err = subst (λ b. IsKept objects net ts b global) (sym err) kept
 
-pub kept_unbound : (net : Interfaces) (ts : List Counted) (bs new : Bound) (global : Option (List ℕ)) (side : ℕ × Bool) → IsKept net ts bs global
-    → new ≡ without_side bs side → IsKept net ts new global
-kept_unbound net ts bs new global side kept made = subst (λ b. IsKept net ts b global) (sym made) (record {
+pub kept_unbound : (objects : Table) (net : Interfaces) (ts : List Counted) (bs new : Bound) (global : Option (List ℕ)) (side : ℕ × Bool) → IsKept objects net ts bs global
+    → new ≡ without_side bs side → IsKept objects net ts new global
+kept_unbound objects net ts bs new global side kept made = subst (λ b. IsKept objects net ts b global) (sym made) (record {
   counted = kept.counted;
   within = list_all-without_side (λ b. nat_lt b.0.0 (length net.ifaces)) bs side kept.within;
   defined = list_all-without_side (λ b. is_some (list_among (lists_in ts) b.1)) bs side kept.defined;
   global_defined = kept.global_defined;
 })
 
-pub kept_global : (net : Interfaces) (ts : List Counted) (bs : Bound) (old new : Option (List ℕ)) → IsKept net ts bs old → is_global_defined (lists_in ts) new ≡ true → IsKept net ts bs new
-kept_global net ts bs old new kept there = record { counted = kept.counted; within = kept.within; defined = kept.defined; global_defined = there }
+pub kept_global : (objects : Table) (net : Interfaces) (ts : List Counted) (bs : Bound) (old new : Option (List ℕ)) → IsKept objects net ts bs old → is_global_defined (lists_in ts) new ≡ true → IsKept objects net ts bs new
+kept_global objects net ts bs old new kept there = record { counted = kept.counted; within = kept.within; defined = kept.defined; global_defined = there }

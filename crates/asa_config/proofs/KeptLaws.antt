@@ -1,23 +1,20 @@
 -- What holds of the parts of a configuration goes on holding after a change of one of them.
-use Rattle.std.proofs.Common.{◌≡◌, ℕ, ◌+◌, ◌≤◌, ◌<◌, Bool, true, false, cond, nat_lt, ◌&&◌, if◌then◌else◌, List, [], ◌∷◌, ◌++◌, length, map, Option, Some, None, is_some, Decides, Result, Ok, Err, OnOk, OnErr, IfOk, refl, sym, ap, subst, ◌∙◌, suc, arith}
-use Rattle.std.specs.List.{AllByRecursion, list_all, find}
+use Rattle.std.proofs.Common.{◌≡◌, ℕ, Bool, true, false, cond, List, [], ◌∷◌, ◌++◌, Option, Some, None, is_some, Decides, Result, Ok, Err, OnOk, OnErr, IfOk, refl, sym, ap, subst, ◌∙◌}
+use Rattle.std.specs.List.{list_all}
 use Rattle.std.specs.Str.{bytes_eq}
 use Rattle.std.proofs.lemmas.Slice.Eq.{bytes_eq-Decides}
 use Rattle.std.proofs.lemmas.Bool.{and_parts, and_from}
-use Rattle.asa_ace.specs.declared.stating.AclLine.{AclLine}
 use Rattle.asa_acl.specs.Lists.{AccessLines, with_line}
 use Rattle.asa_ifaces.specs.Interfaces.{Interfaces}
-use Rattle.asa_boxes.specs.Meanings.{Meanings}
-use Rattle.asa_boxes.specs.Pairs.{line_pairs, list_pairs}
+use Rattle.asa_objects.specs.Tables.{Table}
+use Rattle.asa_boxes.specs.Pairs.{line_pairs}
 use Rattle.asa_config.specs.declared.stating.NewLine.{NewLine}
 use Rattle.asa_config.specs.Settings.{has_name, list_among}
-use Rattle.asa_config.specs.Counted.{Counted, counted_among, lists_in, pairs_in, list_of, table_with, has_room}
-use Rattle.asa_config.specs.Knowing.{pairs_of_lists, meanings_in}
-use Rattle.asa_config.specs.Soundness.{AreCounted, IsKept, all_within, all_defined, is_global_defined}
+use Rattle.asa_config.specs.Counted.{Counted, lists_in, list_of, table_with}
+use Rattle.asa_config.specs.Knowing.{meanings_in}
+use Rattle.asa_config.specs.Soundness.{AreCounted, IsKept, is_global_defined}
 use Rattle.asa_config.specs.Lists.{with_list, put_in}
-use Rattle.asa_config.specs.Lists as spec
-use Rattle.asa_config.proofs.ConfigLaws.{pairs_counted}
-use Rattle.asa_config.proofs.LineLaws.{lists_put, room_same, counted_put, pairs_put}
+use Rattle.asa_config.proofs.LineLaws.{lists_put, counted_put}
 
 -- the same names are there after a list has taken the place of another
 pub there_with : (lists : List AccessLines) (new : AccessLines) (name : List ℕ) → is_some (list_among (with_list lists new) name) ≡ is_some (list_among lists name)
@@ -61,9 +58,9 @@ list_all-weaker p q weaker (x ∷ xs) h =
 abbrev pub Keeps : List AccessLines → List AccessLines → Type 0
 Keeps old new = (name : List ℕ) → is_some (list_among old name) ≡ true → is_some (list_among new name) ≡ true
 
-pub kept_lists : (net : Interfaces) (ts us : List Counted) (bound : List ((ℕ × Bool) × List ℕ)) (global : Option (List ℕ)) → IsKept net ts bound global
-    → AreCounted (meanings_in net.ifaces) us → Keeps (lists_in ts) (lists_in us) → IsKept net us bound global
-kept_lists net ts us bound global kept counted keeps = record {
+pub kept_lists : (objects : Table) (net : Interfaces) (ts us : List Counted) (bound : List ((ℕ × Bool) × List ℕ)) (global : Option (List ℕ)) → IsKept objects net ts bound global
+    → AreCounted (meanings_in objects net.ifaces) us → Keeps (lists_in ts) (lists_in us) → IsKept objects net us bound global
+kept_lists objects net ts us bound global kept counted keeps = record {
   counted = counted;
   within = kept.within;
   defined = list_all-weaker (λ b. is_some (list_among (lists_in ts) b.1)) (λ b. is_some (list_among (lists_in us) b.1)) (λ b h. keeps b.1 h) bound kept.defined;
@@ -75,16 +72,16 @@ kept_lists net ts us bound global kept counted keeps = record {
     by (Some name) h = keeps name h
 
 -- after a line has gone in
-pub kept_put : (net : Interfaces) (ts us : List Counted) (bound : List ((ℕ × Bool) × List ℕ)) (global : Option (List ℕ)) (new : NewLine) (n : ℕ) → IsKept net ts bound global
-    → n ≡ line_pairs (meanings_in net.ifaces) new.item → us ≡ table_with ts new n → IsKept net us bound global
-kept_put net ts us bound global new n kept told made =
-    kept_lists net ts us bound global kept (counted_put (meanings_in net.ifaces) ts us new n kept.counted told made)
+pub kept_put : (objects : Table) (net : Interfaces) (ts us : List Counted) (bound : List ((ℕ × Bool) × List ℕ)) (global : Option (List ℕ)) (new : NewLine) (n : ℕ) → IsKept objects net ts bound global
+    → n ≡ line_pairs (meanings_in objects net.ifaces) new.item → us ≡ table_with ts new n → IsKept objects net us bound global
+kept_put objects net ts us bound global new n kept told made =
+    kept_lists objects net ts us bound global kept (counted_put (meanings_in objects net.ifaces) ts us new n kept.counted told made)
     (λ name there. ap (λ ls. is_some (list_among ls name)) (lists_put ts us new n made) ∙ there_put (lists_in ts) new (list_among (lists_in ts) new.list) name there)
 
-pub kept_answer : {E : Type 0} (r : Result (Unit {0}) E) (net : Interfaces) (ts us : List Counted) (bound : List ((ℕ × Bool) × List ℕ)) (global : Option (List ℕ)) (new : NewLine) (n : ℕ)
-    → IsKept net ts bound global → n ≡ line_pairs (meanings_in net.ifaces) new.item → OnOk r (us ≡ table_with ts new n) → OnErr r (us ≡ ts) → IsKept net us bound global
-kept_answer (Ok x) net ts us bound global new n kept told ok err = kept_put net ts us bound global new n kept told ok
-kept_answer (Err e) net ts us bound global new n kept told ok err = subst (λ t. IsKept net t bound global) (sym err) kept
+pub kept_answer : {E : Type 0} (r : Result (Unit {0}) E) (objects : Table) (net : Interfaces) (ts us : List Counted) (bound : List ((ℕ × Bool) × List ℕ)) (global : Option (List ℕ)) (new : NewLine) (n : ℕ)
+    → IsKept objects net ts bound global → n ≡ line_pairs (meanings_in objects net.ifaces) new.item → OnOk r (us ≡ table_with ts new n) → OnErr r (us ≡ ts) → IsKept objects net us bound global
+kept_answer (Ok x) objects net ts us bound global new n kept told ok err = kept_put objects net ts us bound global new n kept told ok
+kept_answer (Err e) objects net ts us bound global new n kept told ok err = subst (λ t. IsKept objects net t bound global) (sym err) kept
 
 pub lists_answer : {E : Type 0} (r : Result (Unit {0}) E) (ts us : List Counted) (new : NewLine) (n : ℕ) → OnOk r (us ≡ table_with ts new n)
     → OnOk r (lists_in us ≡ put_in (lists_in ts) new (list_among (lists_in ts) new.list))

@@ -3,6 +3,8 @@ pub mod ConfigLaws
 pub mod LineLaws
 pub mod KeptLaws
 pub mod NetLaws
+pub mod SameLaws
+pub mod ObjectLaws
 pub mod ReadLaws
 pub mod BindingLaws
 pub mod TakenLaws

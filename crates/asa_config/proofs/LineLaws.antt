@@ -1,6 +1,6 @@
 -- What becomes of the lists and of their pairs where a line goes in.
-use Rattle.std.proofs.Common.{◌≡◌, ℕ, ◌+◌, ◌-◌, ◌≤◌, ◌<◌, Bool, true, false, cond, nat_lt, nat_le, min, if◌then◌else◌, List, [], ◌∷◌, ◌++◌, length, map, take, drop, Option, Some, None, Result, Ok, Err, OnOk, OnErr, refl, sym, ap, subst, ◌∙◌, suc, arith}
-use Rattle.std.specs.List.{AllByRecursion, sum_by, insert}
+use Rattle.std.proofs.Common.{◌≡◌, ℕ, ◌+◌, Bool, true, false, cond, nat_lt, List, [], ◌∷◌, ◌++◌, length, take, drop, Option, Some, None, refl, sym, ap, subst, ◌∙◌, arith}
+use Rattle.std.specs.List.{sum_by, insert}
 use Rattle.std.proofs.lemmas.List.{take-append-drop}
 use Rattle.std.proofs.lemmas.List.Sums.{sum_by-cons, sum_by-append, sum_by_push}
 use Rattle.asa_ace.specs.declared.stating.AclLine.{AclLine}
@@ -8,9 +8,9 @@ use Rattle.asa_acl.specs.Lists.{AccessLines, with_line, lines_before}
 use Rattle.asa_boxes.specs.Meanings.{Meanings}
 use Rattle.asa_boxes.specs.Pairs.{line_pairs, list_pairs}
 use Rattle.asa_config.specs.declared.stating.NewLine.{NewLine}
-use Rattle.asa_config.specs.Settings.{has_name, list_among}
+use Rattle.asa_config.specs.Settings.{list_among}
 use Rattle.asa_config.specs.Counted.{Counted, is_list, counted_among, lists_in, pairs_in, with_counted, line_put, list_of, put_into, table_with, has_room, has_room_of}
-use Rattle.asa_config.specs.Knowing.{pairs_of_lists, meanings_in}
+use Rattle.asa_config.specs.Knowing.{pairs_of_lists}
 use Rattle.asa_config.specs.Soundness.{AreCounted}
 use Rattle.asa_config.specs.Lists.{with_list, put_in}
 use Rattle.asa_config.specs.Lists as spec

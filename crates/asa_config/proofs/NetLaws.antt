@@ -1,5 +1,5 @@
 -- What a change of interfaces and routes leaves as it is, and what it answers.
-use Rattle.std.proofs.Common.{◌≡◌, ℕ, ◌+◌, ◌≤◌, ◌<◌, Bool, true, false, cond, nat_lt, not, if◌then◌else◌, List, [], ◌∷◌, ◌++◌, length, Option, Some, None, Result, Ok, Err, refl, sym, ap, subst, ◌∙◌, arith, length-append}
+use Rattle.std.proofs.Common.{◌≡◌, ℕ, ◌≤◌, Bool, true, false, nat_lt, if◌then◌else◌, List, [], ◌∷◌, length, Option, Result, Ok, Err, sym, ap, subst, arith, length-append}
 use Rattle.std.proofs.lemmas.Bool.{lt-ltb, ltb-true}
 use Rattle.asa_text.specs.declared.grouping.Block.{Block}
 use Rattle.asa_ifaces.specs.declared.holding.Iface.{Iface}
@@ -9,9 +9,9 @@ use Rattle.asa_ifaces.specs.declared.holding.IfaceFault.TheVariants as fault
 use Rattle.asa_ifaces.specs.declared.holding.RouteLine.{RouteLine}
 use Rattle.asa_ifaces.specs.Answering.{Makes, Changes, and_then}
 use Rattle.asa_ifaces.specs.Interfaces.{Interfaces}
+use Rattle.asa_objects.specs.Tables.{Table}
 use Rattle.asa_ifaces.specs.Routes.{route_added, routes_with, route_removed, routes_without, has_route, without_route, with_routes}
 use Rattle.asa_text.specs.declared.reading.LineFault.TheVariants as word
-use Rattle.asa_config.specs.declared.refusing.EditRefusal.{EditRefusal}
 use Rattle.asa_config.specs.Settings.{Settings}
 use Rattle.asa_config.specs.Counted.{Counted, lists_in}
 use Rattle.asa_config.specs.Knowing.{meanings_in}
@@ -25,9 +25,9 @@ abbrev Bound : Type 0
 Bound = List ((ℕ × Bool) × List ℕ)
 
 -- the interfaces decide
-pub kept_net : (old new : Interfaces) (ts : List Counted) (bound : Bound) (global : Option (List ℕ)) → new.ifaces ≡ old.ifaces → IsKept old ts bound global → IsKept new ts bound global
-kept_net old new ts bound global same kept = record {
-  counted = subst (λ is. AreCounted (meanings_in is) ts) (sym same) kept.counted;
+pub kept_net : (objects : Table) (old new : Interfaces) (ts : List Counted) (bound : Bound) (global : Option (List ℕ)) → new.ifaces ≡ old.ifaces → IsKept objects old ts bound global → IsKept objects new ts bound global
+kept_net objects old new ts bound global same kept = record {
+  counted = subst (λ is. AreCounted (meanings_in objects is) ts) (sym same) kept.counted;
   within = subst (λ is. all_within (length is) bound ≡ true) (sym same) kept.within;
   defined = kept.defined;
   global_defined = kept.global_defined;
@@ -85,9 +85,9 @@ grows (Err fault.NoSuchLine) old new b makes = subst (λ k. length old.ifaces �
 grows (Err fault.TooMany) old new b makes = subst (λ k. length old.ifaces ≤ length k.ifaces) (sym makes.1) (omega arith)
 
 -- and more interfaces keep what is bound
-pub kept_more : (old new : Interfaces) (ts us : List Counted) (bound : Bound) (global : Option (List ℕ)) → IsKept old ts bound global → length old.ifaces ≤ length new.ifaces
-    → AreCounted (meanings_in new.ifaces) us → lists_in us ≡ lists_in ts → IsKept new us bound global
-kept_more old new ts us bound global kept more counted same = record {
+pub kept_more : (objects : Table) (old new : Interfaces) (ts us : List Counted) (bound : Bound) (global : Option (List ℕ)) → IsKept objects old ts bound global → length old.ifaces ≤ length new.ifaces
+    → AreCounted (meanings_in objects new.ifaces) us → lists_in us ≡ lists_in ts → IsKept objects new us bound global
+kept_more objects old new ts us bound global kept more counted same = record {
   counted = counted;
   within = list_all-weaker (λ b. nat_lt b.0.0 (length old.ifaces)) (λ b. nat_lt b.0.0 (length new.ifaces))
       (λ b h. lt-ltb b.0.0 (length new.ifaces) (omega (arith, more, ltb-true b.0.0 (length old.ifaces) h))) bound kept.within;

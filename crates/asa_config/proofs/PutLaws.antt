@@ -1,5 +1,5 @@
 -- The pairs of lists after a line has gone in.
-use Rattle.std.proofs.Common.{◌≡◌, ℕ, ◌+◌, List, [], ◌∷◌, map, refl, sym, ap, subst, ◌∙◌}
+use Rattle.std.proofs.Common.{◌≡◌, ℕ, ◌+◌, List, [], ◌∷◌, map, refl, ap, subst}
 use Rattle.asa_acl.specs.Lists.{AccessLines}
 use Rattle.asa_boxes.specs.Meanings.{Meanings}
 use Rattle.asa_boxes.specs.Pairs.{line_pairs, list_pairs}

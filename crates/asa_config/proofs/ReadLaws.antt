@@ -1,5 +1,5 @@
 -- A reader that may want memory, and goes on after it.
-use Rattle.std.proofs.Common.{◌≡◌, ap}
+use Rattle.std.proofs.Common.{ap}
 use Rattle.asa_text.specs.declared.reading.LineFault.{LineFault}
 use Rattle.asa_text.specs.declared.reading.LineFault.TheVariants.{Bad, Unsupported, Unknown, NoSuchInterface, NoMemory}
 use Rattle.asa_text.specs.Words.{Left}

@@ -1,6 +1,6 @@
 -- What becomes of the lists and of their pairs where a line or a list goes.
-use Rattle.std.proofs.Common.{◌≡◌, ℕ, ◌+◌, ◌-◌, ◌≤◌, ◌<◌, Bool, true, false, cond, not, ◌||◌, if◌then◌else◌, List, [], ◌∷◌, ◌++◌, length, take, drop, get_or, map, Option, Some, None, is_some, Decides, Result, Ok, Err, OnOk, OnErr, IfSome, IsSomeAnd, refl, sym, ap, subst, ◌∙◌, suc, arith}
-use Rattle.std.specs.List.{AllByRecursion, sum_by, remove, list_any, list_all, position}
+use Rattle.std.proofs.Common.{◌≡◌, ℕ, ◌+◌, ◌≤◌, ◌<◌, Bool, true, false, cond, ◌||◌, List, [], ◌∷◌, length, take, drop, get_or, Option, Some, None, is_some, Decides, Result, Ok, Err, OnOk, OnErr, IsSomeAnd, refl, sym, ap, subst, ◌∙◌, suc, arith}
+use Rattle.std.specs.List.{sum_by, remove, list_all}
 use Rattle.std.specs.Str.{bytes_eq}
 use Rattle.std.proofs.Math.Seq.{drop-cons}
 use Rattle.std.proofs.lemmas.List.{take-append-drop}
@@ -10,6 +10,7 @@ use Rattle.asa_acl.specs.Lists.{AccessLines, without_equal, without, place_of_eq
 use Rattle.asa_boxes.specs.Meanings.{Meanings}
 use Rattle.asa_boxes.specs.Pairs.{line_pairs, list_pairs}
 use Rattle.asa_ifaces.specs.Interfaces.{Interfaces}
+use Rattle.asa_objects.specs.Tables.{Table}
 use Rattle.std.proofs.lemmas.Bool.{and_parts, and_from}
 use Rattle.std.proofs.lemmas.Slice.Eq.{bytes_eq-Decides}
 use Rattle.asa_config.specs.Settings.{has_name, list_among}
@@ -17,12 +18,11 @@ use Rattle.asa_config.specs.Counted.{Counted, is_list, counted_among, lists_in, 
 use Rattle.asa_config.specs.Counted as counted
 use Rattle.asa_config.specs.Groups.{binds, is_name_there}
 use Rattle.asa_config.specs.Knowing.{meanings_in, pairs_of_lists}
-use Rattle.asa_config.specs.Lists.{with_list, without_list, without_line, has_equal}
+use Rattle.asa_config.specs.Lists.{without_list, without_line}
 use Rattle.asa_config.specs.Soundness.{AreCounted, IsKept, TakesPairs, is_global_defined}
-use Rattle.asa_config.proofs.ConfigLaws.{list_in, list_in_table, pairs_counted}
+use Rattle.asa_config.proofs.ConfigLaws.{list_in, list_in_table}
 use Rattle.asa_config.proofs.LineLaws.{lists_with_counted, counted_with, found_counted}
 use Rattle.asa_config.proofs.KeptLaws.{there_with, kept_lists}
-use Rattle.asa_config.proofs.TableLaws.{pairs_at_most}
 
 -- a line that goes takes its pairs with it
 sum_remove : {X : Type 0} (f : X → ℕ) (xs : List X) (i : ℕ) (d : X) → i < length xs → sum_by f (remove xs i) + f (get_or xs i d) ≡ sum_by f xs
@@ -87,24 +87,24 @@ there_taken : (lists : List AccessLines) (item : AclLine) (o : Option AccessLine
 there_taken lists item None name there = there
 there_taken lists item (Some l) name there = there_with lists (without_equal l item) name ∙ there
 
-pub kept_taken : (net : Interfaces) (ts us : List Counted) (bound : List ((ℕ × Bool) × List ℕ)) (global : Option (List ℕ)) (name : List ℕ) (item : AclLine) (n : ℕ) → IsKept net ts bound global
-    → TakesPairs (meanings_in net.ifaces) item n (list_among (lists_in ts) name) → us ≡ table_without ts name item n → IsKept net us bound global
+pub kept_taken : (objects : Table) (net : Interfaces) (ts us : List Counted) (bound : List ((ℕ × Bool) × List ℕ)) (global : Option (List ℕ)) (name : List ℕ) (item : AclLine) (n : ℕ) → IsKept objects net ts bound global
+    → TakesPairs (meanings_in objects net.ifaces) item n (list_among (lists_in ts) name) → us ≡ table_without ts name item n → IsKept objects net us bound global
 unfolding table_without
-kept_taken net ts us bound global name item n kept takes made =
-    kept_lists net ts us bound global kept
-    (subst (AreCounted (meanings_in net.ifaces)) (sym made) (by (counted_among ts name) refl (takes_counted (meanings_in net.ifaces) ts name item n (counted_among ts name) refl takes)))
+kept_taken objects net ts us bound global name item n kept takes made =
+    kept_lists objects net ts us bound global kept
+    (subst (AreCounted (meanings_in objects net.ifaces)) (sym made) (by (counted_among ts name) refl (takes_counted (meanings_in objects net.ifaces) ts name item n (counted_among ts name) refl takes)))
     (λ other there. ap (λ ls. is_some (list_among ls other)) (lists_taken ts us name item n made) ∙ there_taken (lists_in ts) item (list_among (lists_in ts) name) other there)
   where
-    by : (o : Option Counted) → counted_among ts name ≡ o → TakesPairs (meanings_in net.ifaces) item n (list_in o) → AreCounted (meanings_in net.ifaces) (counted.without_line ts item n o)
+    by : (o : Option Counted) → counted_among ts name ≡ o → TakesPairs (meanings_in objects net.ifaces) item n (list_in o) → AreCounted (meanings_in objects net.ifaces) (counted.without_line ts item n o)
     by None found takes = absurd takes
     by (Some t) found takes =
-        counted_with (meanings_in net.ifaces) ts (line_taken t item n) kept.counted
-        (omega (arith, takes.0, found_counted (meanings_in net.ifaces) ts name t kept.counted found))
+        counted_with (meanings_in objects net.ifaces) ts (line_taken t item n) kept.counted
+        (omega (arith, takes.0, found_counted (meanings_in objects net.ifaces) ts name t kept.counted found))
 
-pub kept_taken_answer : {E : Type 0} (r : Result (Unit {0}) E) (net : Interfaces) (ts us : List Counted) (bound : List ((ℕ × Bool) × List ℕ)) (global : Option (List ℕ)) (name : List ℕ) (item : AclLine) (n : ℕ)
-    → IsKept net ts bound global → TakesPairs (meanings_in net.ifaces) item n (list_among (lists_in ts) name) → OnOk r (us ≡ table_without ts name item n) → OnErr r (us ≡ ts) → IsKept net us bound global
-kept_taken_answer (Ok x) net ts us bound global name item n kept takes ok err = kept_taken net ts us bound global name item n kept takes ok
-kept_taken_answer (Err e) net ts us bound global name item n kept takes ok err = subst (λ t. IsKept net t bound global) (sym err) kept
+pub kept_taken_answer : {E : Type 0} (r : Result (Unit {0}) E) (objects : Table) (net : Interfaces) (ts us : List Counted) (bound : List ((ℕ × Bool) × List ℕ)) (global : Option (List ℕ)) (name : List ℕ) (item : AclLine) (n : ℕ)
+    → IsKept objects net ts bound global → TakesPairs (meanings_in objects net.ifaces) item n (list_among (lists_in ts) name) → OnOk r (us ≡ table_without ts name item n) → OnErr r (us ≡ ts) → IsKept objects net us bound global
+kept_taken_answer (Ok x) objects net ts us bound global name item n kept takes ok err = kept_taken objects net ts us bound global name item n kept takes ok
+kept_taken_answer (Err e) objects net ts us bound global name item n kept takes ok err = subst (λ t. IsKept objects net t bound global) (sym err) kept
 
 -- a list goes
 pub lists_without_counted : (ts : List Counted) (name : List ℕ) → lists_in (without_counted ts name) ≡ without_list (lists_in ts) name
@@ -156,12 +156,12 @@ all_without lists name (b ∷ bs) apart all =
     and_from (is_some (list_among (without_list lists name) b.1)) (list_all (λ b. is_some (list_among (without_list lists name) b.1)) bs)
     (there_without lists name b.1 sides.0 parts.0) (all_without lists name bs sides.1 parts.1)
 
-pub kept_dropped : (net : Interfaces) (ts us : List Counted) (bound : List ((ℕ × Bool) × List ℕ)) (global : Option (List ℕ)) (name : List ℕ) → IsKept net ts bound global
-    → (binds bound name || is_name_there name global) ≡ false → us ≡ without_counted ts name → IsKept net us bound global
-kept_dropped net ts us bound global name kept unbound made =
+pub kept_dropped : (objects : Table) (net : Interfaces) (ts us : List Counted) (bound : List ((ℕ × Bool) × List ℕ)) (global : Option (List ℕ)) (name : List ℕ) → IsKept objects net ts bound global
+    → (binds bound name || is_name_there name global) ≡ false → us ≡ without_counted ts name → IsKept objects net us bound global
+kept_dropped objects net ts us bound global name kept unbound made =
     let sides = or_parts (binds bound name) (is_name_there name global) unbound in
-    subst (λ t. IsKept net t bound global) (sym made) (record {
-      counted = counted_without (meanings_in net.ifaces) ts name kept.counted;
+    subst (λ t. IsKept objects net t bound global) (sym made) (record {
+      counted = counted_without (meanings_in objects net.ifaces) ts name kept.counted;
       within = kept.within;
       defined = subst (λ ls. list_all (λ b. is_some (list_among ls b.1)) bound ≡ true) (sym (lists_without_counted ts name)) (all_without (lists_in ts) name bound sides.0 kept.defined);
       global_defined = subst (λ ls. is_global_defined ls global ≡ true) (sym (lists_without_counted ts name)) (by global kept.global_defined sides.1);

@@ -4,7 +4,7 @@ use Rattle.std.specs.List.{AllByRecursion}
 use Rattle.std.specs.Str.{bytes_eq}
 use Rattle.asa_ace.specs.declared.stating.AclLine.{AclLine}
 use Rattle.asa_config.specs.declared.stating.NewLine.{NewLine}
-use Rattle.asa_acl.specs.Lists.{AccessLines, with_line, without_equal}
+use Rattle.asa_acl.specs.Lists.{AccessLines, with_line, without_equal, list_uses}
 
 pub record Counted : Type 0 where
   pub list : AccessLines
@@ -17,6 +17,10 @@ is_list name t = bytes_eq name t.list.name
 -- the list among these that has this name
 abbrev pub counted_among : List Counted → List ℕ → Option Counted
 counted_among ts name = find (is_list name) ts
+
+-- the first list among these with a line that names the object or group
+abbrev pub counted_using : List Counted → List ℕ → Option Counted
+counted_using ts name = find (λ t. list_uses name t.list) ts
 
 -- the lists themselves
 abbrev pub lists_in : List Counted → List AccessLines

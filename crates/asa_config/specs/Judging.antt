@@ -7,7 +7,7 @@ use Rattle.asa_text.specs.declared.reading.LineFault.TheVariants as word
 use Rattle.asa_text.specs.Words.{Left, line_left}
 use Rattle.asa_text.specs.Readers.{Read, column_at}
 use Rattle.asa_config.specs.declared.refusing.EditFault.{EditFault}
-use Rattle.asa_config.specs.declared.refusing.EditFault.TheVariants.{Bad, Unsupported, Unknown, NoSuchInterface, NotBuilt}
+use Rattle.asa_config.specs.declared.refusing.EditFault.TheVariants.{Bad, Unsupported, Unknown, NoSuchInterface}
 use Rattle.asa_config.specs.declared.refusing.EditRefusal.{EditRefusal}
 use Rattle.asa_config.specs.declared.refusing.EditRefusal.TheVariants.{At, NoMemory}
 

@@ -1,23 +1,24 @@
 -- What a configuration knows of the names in a line, and what they stand for.
-use Rattle.std.specs.Prelude.{ℕ, List, [], Option, Some, None, slice_get, sum_by}
+use Rattle.std.specs.Prelude.{ℕ, List, Option, Some, None, slice_get, sum_by}
 use Rattle.asa_base.specs.Knowing.{Known}
 use Rattle.asa_base.specs.declared.boxing.LineBox.{LineBox}
 use Rattle.asa_text.specs.declared.numbering.Addr.{Addr}
 use Rattle.asa_ifaces.specs.declared.holding.Iface.{Iface}
 use Rattle.asa_ifaces.specs.Interfaces.{interface_of, address_of, named_address}
 use Rattle.asa_acl.specs.Lists.{AccessLines}
+use Rattle.asa_objects.specs.Tables.{Table, kind_in, port_proto_in, service_range_in, members_of, services_of_name}
 use Rattle.asa_boxes.specs.Meanings.{Meanings}
 use Rattle.asa_boxes.specs.Boxes.{boxes_of}
 use Rattle.asa_boxes.specs.Pairs.{list_pairs}
 use Rattle.asa_config.specs.Settings.{Settings}
 
--- objects and groups aren't built yet: no name is one
+-- what the readers of lines know of names
 abbrev pub known_of : Settings → Known
 known_of c = record {
-  kind_of = λ _. None;
+  kind_of = kind_in c.objects;
   interface_of = interface_of c.net;
-  port_proto = λ _. None;
-  service_range = λ _. None;
+  port_proto = port_proto_in c.objects;
+  service_range = service_range_in c.objects;
   address_of = address_of c.net;
 }
 
@@ -30,13 +31,13 @@ address_if_any (Some i) = named_address i
 abbrev pub address_in : List Iface → ℕ → Option Addr
 address_in ifaces ifc = address_if_any (slice_get ifaces ifc)
 
--- what the names of list lines stand for where these are the interfaces
-abbrev pub meanings_in : List Iface → Meanings
-meanings_in ifaces = record { members = λ _. []; services = λ _. []; address_of = address_in ifaces }
+-- what the names of list lines stand for where these are the objects and groups, and these the interfaces
+abbrev pub meanings_in : Table → List Iface → Meanings
+meanings_in objects ifaces = record { members = members_of objects; services = services_of_name objects; address_of = address_in ifaces }
 
 -- what the names of list lines stand for
 abbrev pub meanings_of : Settings → Meanings
-meanings_of c = meanings_in c.net.ifaces
+meanings_of c = meanings_in c.objects c.net.ifaces
 
 -- the boxes of a list under a configuration
 abbrev pub boxes_under : Settings → AccessLines → List LineBox

@@ -6,6 +6,7 @@ pub mod Counted
 pub mod Grammar
 pub mod Fitting
 pub mod Net
+pub mod Objects
 pub mod Groups
 pub mod Lists
 pub mod Steps

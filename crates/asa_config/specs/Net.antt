@@ -1,7 +1,6 @@
 -- Blocks of interfaces, and the lines of routes, times and same security.
-use Rattle.std.specs.Prelude.{ℕ, Bool, not, Ok, Err, Result, if◌then◌else◌}
+use Rattle.std.specs.Prelude.{Bool, Ok, Err, Result, if◌then◌else◌}
 use Rattle.asa_text.specs.declared.grouping.Block.{Block}
-use Rattle.asa_text.specs.Words.{Left}
 use Rattle.asa_ifaces.specs.declared.holding.IfaceFault.{IfaceFault}
 use Rattle.asa_ifaces.specs.declared.holding.IfaceFault.TheVariants as net
 use Rattle.asa_ifaces.specs.declared.holding.RouteLine.{RouteLine}

@@ -1,5 +1,5 @@
 -- A configuration as plain lists.
-use Rattle.std.specs.Prelude.{ℕ, Bool, ◌&&◌, ◌==◌, List, [], Option, Some, None, option_and_then}
+use Rattle.std.specs.Prelude.{ℕ, Bool, ◌&&◌, ◌==◌, List, [], Option, Some, None}
 use Rattle.std.proofs.Math.Bool.{beq}
 use Rattle.std.specs.List.{find}
 use Rattle.std.specs.Map.{lookup}
@@ -7,10 +7,13 @@ use Rattle.std.specs.Str.{bytes_eq}
 use Rattle.asa_ifaces.specs.Interfaces.{Interfaces}
 use Rattle.asa_ifaces.specs.Interfaces as ifaces
 use Rattle.asa_acl.specs.Lists.{AccessLines}
+use Rattle.asa_objects.specs.Tables.{Table}
 
 pub record Settings : Type 0 where
   -- the interfaces, the routes, the times, and what is permitted between interfaces of one level
   pub net : Interfaces
+  -- the objects and groups by name
+  pub objects : Table
   -- the access lists in order of first definition
   pub lists : List AccessLines
   -- the access groups of interfaces: the number of an interface and whether its inbound side, with the name of the list
@@ -20,7 +23,7 @@ pub record Settings : Type 0 where
 
 -- nothing is configured
 abbrev pub nothing : Settings
-nothing = record { net = ifaces.nothing; lists = []; bound = []; global = None }
+nothing = record { net = ifaces.nothing; objects = []; lists = []; bound = []; global = None }
 
 -- the list has this name
 abbrev pub has_name : List ℕ → AccessLines → Bool

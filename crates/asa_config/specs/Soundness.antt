@@ -1,9 +1,10 @@
 -- What holds of every configuration.
-use Rattle.std.specs.Prelude.{◌≡◌, ℕ, ◌+◌, ◌≤◌, Bool, true, false, nat_lt, nat_le, List, length, map, Option, Some, None, is_some}
+use Rattle.std.specs.Prelude.{◌≡◌, ℕ, ◌+◌, ◌≤◌, Bool, true, nat_lt, List, length, map, Option, Some, None, is_some}
 use Rattle.std.specs.List.{list_all, AllByRecursion}
 use Rattle.asa_boxes.specs.Meanings.{Meanings}
 use Rattle.asa_boxes.specs.Pairs.{list_pairs}
 use Rattle.asa_ifaces.specs.Interfaces.{Interfaces}
+use Rattle.asa_objects.specs.Tables.{Table}
 use Rattle.asa_config.specs.Counted.{Counted, lists_in}
 use Rattle.asa_ace.specs.declared.stating.AclLine.{AclLine}
 use Rattle.asa_acl.specs.Lists.{AccessLines, without_equal}
@@ -36,9 +37,9 @@ pub record IsSound (c : Settings) : Type 0 where
 abbrev pub AreCounted : Meanings → List Counted → Type 0
 AreCounted m ts = AllByRecursion (λ t. t.pairs ≡ list_pairs m t.list.lines) ts
 
--- what holds of the parts of a configuration, whose interfaces and counted lists are told
-pub record IsKept (net : Interfaces) (ts : List Counted) (bound : List ((ℕ × Bool) × List ℕ)) (global : Option (List ℕ)) : Type 0 where
-  pub counted : AreCounted (meanings_in net.ifaces) ts
+-- what holds of the parts of a configuration, whose objects, interfaces and counted lists are told
+pub record IsKept (objects : Table) (net : Interfaces) (ts : List Counted) (bound : List ((ℕ × Bool) × List ℕ)) (global : Option (List ℕ)) : Type 0 where
+  pub counted : AreCounted (meanings_in objects net.ifaces) ts
   pub within : all_within (length net.ifaces) bound ≡ true
   pub defined : all_defined (lists_in ts) bound ≡ true
   pub global_defined : is_global_defined (lists_in ts) global ≡ true

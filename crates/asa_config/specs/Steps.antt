@@ -5,20 +5,22 @@ use Rattle.asa_text.specs.Words.{Left, line_left}
 use Rattle.asa_text.specs.Readers.{after_one, next_is}
 use Rattle.asa_config.specs.declared.refusing.EditFault.TheVariants.{NotBuilt}
 use Rattle.asa_config.specs.Settings.{Settings, nothing}
-use Rattle.asa_config.specs.Classes.{is_passed}
+use Rattle.asa_config.specs.Classes.{is_passed, begins_object}
 use Rattle.asa_config.specs.Judging.{Judged, refused, top_text}
 use Rattle.asa_config.specs.Net.{interface_step, route_step, no_route_step, timeout_step, permits_step}
+use Rattle.asa_config.specs.Objects.{object_step, no_object_step}
 use Rattle.asa_config.specs.Lists.{line_step, no_line_step}
 use Rattle.asa_config.specs.Groups.{group_step, no_group_step}
 
--- a block whose first word is `no`, by the word after it; objects, groups, NAT and the commit mode aren't built yet
+-- a block whose first word is `no`, by the word after it; NAT and the commit mode aren't built yet
 unfoldable pub removal_step : Settings → Block → Left → Judged Settings
 removal_step c b left =
     if next_is (codes "access-list") left then no_line_step c b
     else (if next_is (codes "access-group") left then no_group_step c b
     else (if next_is (codes "same-security-traffic") left then permits_step c b
     else (if next_is (codes "route") left then no_route_step c b
-    else refused 1 NotBuilt)))
+    else (if begins_object left then no_object_step c b
+    else refused 1 NotBuilt))))
 
 -- every other block, by its first word
 unfoldable pub command_step : Settings → Block → Bool → Left → Judged Settings
@@ -29,7 +31,8 @@ command_step c b startup left =
     else (if next_is (codes "same-security-traffic") left then permits_step c b
     else (if next_is (codes "route") left then route_step c b
     else (if next_is (codes "timeout") left then timeout_step c b
-    else refused 1 NotBuilt)))))
+    else (if begins_object left then object_step c b
+    else refused 1 NotBuilt))))))
 
 -- a block of this profile
 unfoldable pub taken_step : Settings → Block → Bool → Left → Judged Settings

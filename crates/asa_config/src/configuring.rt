@@ -11,14 +11,16 @@ use asa_acl::Acl;
 use asa_base::{Addr, Kind, LineBox, Name, Names, PortProto, Service};
 use asa_boxes::boxes;
 use asa_ifaces::Ifaces;
+use asa_objects::Objects;
 use asa_text::Items;
 use std::alloc::{AllocError, Global};
 use std::marker::Model;
 
-/// A configuration: its interfaces, routes and times, its access lists and access groups.
+/// A configuration: its interfaces, routes and times, its objects and groups, its access lists and access groups.
 #[derive(Debug, Drop)]
 pub struct Config {
     pub(crate) net: Ifaces,
+    pub(crate) objects: Objects,
     pub(crate) table: ListTable,
     pub(crate) bound: Vec<((u8, bool), Name)>,
     pub(crate) global: Option<Name>,
@@ -34,12 +36,13 @@ impl Model for Config {
 
     ghost view = { λ c. record {
       net = c.net;
+      objects = c.objects;
       lists = lists_in c.table;
       bound = c.bound.items;
       global = c.global;
     } };
 
-    ghost invariant = { λ c. IsKept c.net c.table c.bound.items c.global };
+    ghost invariant = { λ c. IsKept c.objects c.net c.table c.bound.items c.global };
 }
 
 impl Config {
@@ -49,6 +52,7 @@ impl Config {
     {
         Config {
             net: Ifaces::new(alloc),
+            objects: Objects::new(alloc),
             table: ListTable::new(alloc),
             bound: Vec::new(alloc),
             global: None,
@@ -61,6 +65,13 @@ impl Config {
         ensures { result.now ≡ self.now.net }
     {
         &self.net
+    }
+
+    /// The objects and groups.
+    pub fn objects(&self) -> &Objects
+        ensures { result.now ≡ self.now.objects }
+    {
+        &self.objects
     }
 
     /// The list that has this name, or None exactly where none has it.
@@ -138,9 +149,11 @@ impl Config {
 
     /// What the names of list lines stand for.
     pub(crate) fn scope(&self) -> Scope<'_>
-        ensures { result.ifaces.now ≡ self.now.net.ifaces }
+        ensures objects { result.objects.now ≡ self.now.objects }
+        ensures ifaces { result.ifaces.now ≡ self.now.net.ifaces }
     {
         Scope {
+            objects: &self.objects,
             ifaces: self.net.ifaces(),
         }
     }
@@ -154,15 +167,16 @@ impl Config {
         boxes(alloc, &self.scope(), list.lines())
     }
 
-    /// A copy, which shares the lists.
+    /// A copy, which shares the lists and the members of each object and group.
     pub fn copy(&self) -> Result<Config, AllocError>
         ensures { IfOk result (λ c. c ≡ self.now) }
     {
         Ok(Config {
             net: self.net.copy()?,
+            objects: self.objects.copy()?,
             table: self.table.copy()?,
             bound: copy_bindings(self.alloc, self.bound.as_slice())?,
-            global: self.global.as_ref().map(|name| name.copy()),
+            global: copy_name(&self.global),
             alloc: self.alloc,
         })
     }
@@ -174,8 +188,7 @@ impl Names for Config {
     ghost known = { λ c. known_of c };
 
     fn kind_of(&self, name: &Name) -> Option<Kind> {
-        let _ = name;
-        None
+        self.objects.kind_of(name)
     }
 
     fn interface_of(&self, name: &Name) -> Option<u8> {
@@ -183,13 +196,11 @@ impl Names for Config {
     }
 
     fn port_proto(&self, name: &Name) -> Option<PortProto> {
-        let _ = name;
-        None
+        self.objects.port_proto(name)
     }
 
     fn service_range(&self, name: &Name) -> Option<Service> {
-        let _ = name;
-        None
+        self.objects.service_range(name)
     }
 
     fn address_of(&self, ifc: u8) -> Option<Addr> {
@@ -214,6 +225,16 @@ pub(crate) fn bound_to(bound: &[((u8, bool), Name)], side: (u8, bool)) -> Option
         }
     }
     None
+}
+
+/// A copy of a name, where there is one.
+fn copy_name(name: &Option<Name>) -> Option<Name>
+    ensures { result ≡ name.now }
+{
+    match name {
+        Some(name) => Some(name.copy()),
+        None => None,
+    }
 }
 
 /// A copy of the bindings.

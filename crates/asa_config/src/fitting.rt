@@ -43,7 +43,7 @@ pub(crate) fn count_lists(
     scope: &Scope<'_>,
     table: &ListTable,
 ) -> Result<Counts, AllocError>
-    ensures { IfOk result (λ n. AreCounts (meanings_in scope.now.ifaces.now) (lists_in table.now) n) }
+    ensures { IfOk result (λ n. AreCounts (meanings_in scope.now.objects.now scope.now.ifaces.now) (lists_in table.now) n) }
 {
     let mut each = Vec::with_capacity(alloc, table.len())?;
     let mut total = 0;

@@ -1,4 +1,4 @@
-//! The configuration of the firewall: its interfaces, routes, access lists and access groups, the step of a
+//! The configuration of the firewall: its interfaces, routes, objects, groups, access lists and access groups, the step of a
 //! configuration by one block, and readers of its parts.
 #![tactic(auto)]
 
@@ -6,6 +6,7 @@ mod binding;
 mod classing;
 mod configuring;
 mod fitting;
+mod grouping;
 mod judging;
 mod lining;
 mod listing;
@@ -20,6 +21,7 @@ mod tabling;
 mod tests;
 
 pub use asa_ifaces::{Iface, Ifaces, RouteLine, Timeouts};
+pub use asa_objects::Objects;
 pub use asa_text::cut_blocks;
 pub use classing::{Class, class_of};
 pub use configuring::Config;

@@ -175,10 +175,11 @@ impl Config {
 
     /// The pairs of all lists under other interfaces.
     fn count_under(&self, net: &Ifaces) -> Result<Counts, AllocError>
-        ensures value { IfOk result (λ n. AreCounts (meanings_in net.now.ifaces) self.now.lists n) }
+        ensures value { IfOk result (λ n. AreCounts (meanings_in self.now.objects net.now.ifaces) self.now.lists n) }
         ensures total { IfOk result (λ n. n.total ≡ pair_count (spec.with_net self.now net.now)) }
     {
         let scope = Scope {
+            objects: &self.objects,
             ifaces: net.ifaces(),
         };
         count_lists(self.alloc, &scope, &self.table)
@@ -187,7 +188,7 @@ impl Config {
     /// Puts other interfaces, under which the pairs of all lists are counted.
     fn put_net(&mut self, net: Ifaces, counts: &Counts)
         requires more { length self.old.net.ifaces ≤ length net.ifaces }
-        requires told { AreCounts (meanings_in net.ifaces) self.old.lists counts.now }
+        requires told { AreCounts (meanings_in self.old.objects net.ifaces) self.old.lists counts.now }
         requires few { counts.now.total ≤ 262144 }
         ensures { self.new ≡ spec.with_net self.old net }
     {

@@ -1,18 +1,19 @@
 //! What the names of list lines stand for under a configuration.
-ghost use Rattle.std.specs.Prelude.{◌≡◌, ◌≤◌, IfOk, [], length, sum_by};
-ghost use Rattle.asa_base.specs.Prefixes.{member_prefix_count};
+ghost use Rattle.std.specs.Prelude.{◌≡◌};
 ghost use Rattle.asa_config.specs.Knowing as spec;
 ghost use Rattle.asa_ifaces.specs.Interfaces.{named_address};
 
 use asa_base::{Addr, Member, Name, Service};
 use asa_boxes::Meaning;
 use asa_ifaces::Iface;
+use asa_objects::Objects;
 use asa_text::Items;
 use std::alloc::{AllocError, Global};
 
-/// The interfaces that list lines may name. Objects and groups aren't built yet, so no name stands for anything.
+/// The objects, groups and interfaces that list lines may name.
 #[derive(Clone, Copy, Debug)]
 pub(crate) struct Scope<'a> {
+    pub(crate) objects: &'a Objects,
     pub(crate) ifaces: &'a [Iface],
 }
 
@@ -39,31 +40,26 @@ fn address_in(ifaces: &[Iface], ifc: u8) -> Option<Addr>
 impl<'a> Meaning for Scope<'a> {
     ghost use Rattle.asa_config.specs.Knowing.{meanings_in};
 
-    ghost meanings = { λ s. meanings_in s.ifaces.now };
+    ghost meanings = { λ s. meanings_in s.objects.now s.ifaces.now };
 
     fn member_count(&self, name: &Name) -> u64 {
-        let _ = name;
-        0
+        self.objects.member_count(name)
     }
 
     fn prefix_count(&self, name: &Name) -> u64 {
-        let _ = name;
-        0
+        self.objects.prefix_total(name)
     }
 
     fn service_count(&self, name: &Name) -> u64 {
-        let _ = name;
-        0
+        self.objects.service_count(name)
     }
 
     fn members(&self, alloc: Global, name: &Name) -> Result<Items<Member>, AllocError> {
-        let _ = name;
-        Ok(Items::new(alloc))
+        self.objects.members(alloc, name)
     }
 
     fn services(&self, alloc: Global, name: &Name) -> Result<Items<Service>, AllocError> {
-        let _ = name;
-        Ok(Items::new(alloc))
+        self.objects.services(alloc, name)
     }
 
     fn address_of(&self, ifc: u8) -> Option<Addr> {

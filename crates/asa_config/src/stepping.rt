@@ -4,7 +4,7 @@ ghost use Rattle.asa_text.specs.Words.{line_left};
 ghost use Rattle.asa_config.specs.Judging.{Gives, Makes};
 ghost use Rattle.asa_config.specs.Steps as spec;
 
-use crate::classing::{after_one, is_passed};
+use crate::classing::{after_one, begins_object, is_passed};
 use crate::configuring::Config;
 use crate::judging::{refused, top_words};
 use crate::refusing::{EditFault, EditRefusal};
@@ -27,6 +27,9 @@ impl Config {
         }
         if words.next_is(b"route") {
             return self.step_no_route(block);
+        }
+        if begins_object(words) {
+            return self.step_no_object(block);
         }
         Err(refused(1, EditFault::NotBuilt))
     }
@@ -58,6 +61,9 @@ impl Config {
         }
         if words.next_is(b"timeout") {
             return self.step_timeout(block);
+        }
+        if begins_object(words) {
+            return self.step_object(block);
         }
         Err(refused(1, EditFault::NotBuilt))
     }

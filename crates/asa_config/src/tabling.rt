@@ -116,6 +116,21 @@ impl ListTable {
         }
     }
 
+    /// The first list with a line that names the object or group.
+    pub(crate) fn using(&self, name: &Name) -> Option<&KeptList>
+        ensures { option_copied result ≡ spec.counted_using self.now name.now }
+    {
+        for i in 0..self.len() {
+            let Some(list) = self.at(i) else {
+                unreachable!()
+            };
+            if list.acl().uses(name) {
+                return Some(list);
+            }
+        }
+        None
+    }
+
     /// Whether a line may go into the list that has this name, or begin it.
     pub(crate) fn has_room(&self, name: &Name) -> bool
         ensures { result ≡ spec.has_room self.now name.now }

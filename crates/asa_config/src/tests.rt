@@ -299,3 +299,193 @@ fn an_edit_leaves_the_configuration_before_it(rt: HostRuntime) -> Result<(), Fai
     assert!(rt; after.global().is_none());
     Ok(())
 }
+
+#[test]
+fn a_block_of_an_object_or_a_group_is_refused_at_its_line(rt: HostRuntime) -> Result<(), Fail> {
+    let unknown = EditFault::Unknown { column: 15 };
+    let security = EditFault::Unsupported { column: 14 };
+    assert_refused(&rt, 1, bad(17), b"object network A\n")?;
+    assert_refused(
+        &rt,
+        2,
+        unknown,
+        b"object-group network G\n group-object H\n",
+    )?;
+    assert_refused(&rt, 1, security, b"object-group security S\n")?;
+    assert_refused(
+        &rt,
+        1,
+        EditFault::NameTaken,
+        b"object network A\n host 10.0.0.9\nobject service A\n service tcp\n",
+    )?;
+    assert_refused(
+        &rt,
+        3,
+        EditFault::NoSuchLine,
+        b"object-group network G\n network-object host 10.0.0.9\n no network-object host 10.0.0.8\n",
+    )?;
+    assert_refused(
+        &rt,
+        3,
+        EditFault::NotBuilt,
+        b"object network A\n host 10.0.0.9\n nat (inside,outside) static 203.0.113.9\n",
+    )?;
+    Ok(())
+}
+
+#[test]
+fn a_group_never_reaches_itself(rt: HostRuntime) -> Result<(), Fail> {
+    assert_refused(
+        &rt,
+        2,
+        EditFault::Cycle,
+        b"object-group network G\n group-object G\n",
+    )?;
+    assert_refused(
+        &rt,
+        2,
+        EditFault::Cycle,
+        b"object-group network G\n network-object host 10.0.0.9\n\
+            object-group network H\n group-object G\n\
+            object-group network G\n group-object H\n",
+    )?;
+    Ok(())
+}
+
+#[test]
+fn a_removal_is_refused_at_its_word(rt: HostRuntime) -> Result<(), Fail> {
+    let unknown = EditFault::Unknown { column: 19 };
+    let security = EditFault::Unsupported { column: 17 };
+    assert_refused(&rt, 1, unknown, b"no object network A\n")?;
+    assert_refused(
+        &rt,
+        1,
+        bad(19),
+        b"object service S\n service tcp\nno object network S\n",
+    )?;
+    assert_refused(
+        &rt,
+        1,
+        bad(21),
+        b"object network A\n host 10.0.0.9\nno object network A x\n",
+    )?;
+    assert_refused(
+        &rt,
+        2,
+        bad(2),
+        b"object network A\n host 10.0.0.9\nno object network A\n host 10.0.0.9\n",
+    )?;
+    assert_refused(&rt, 1, security, b"no object-group security S\n")?;
+    Ok(())
+}
+
+#[test]
+fn what_is_named_stays_and_its_first_user_is_told(rt: HostRuntime) -> Result<(), Fail> {
+    let group = EditFault::InUse { by: name(b"G1")? };
+    let list = EditFault::InUse { by: name(b"M")? };
+    assert_refused(
+        &rt,
+        1,
+        group,
+        b"object network A\n host 10.0.0.9\n\
+            object-group network G2\n network-object object A\n\
+            object-group network G1\n network-object object A\n\
+            access-list K permit ip object A any\n\
+            no object network A\n",
+    )?;
+    assert_refused(
+        &rt,
+        1,
+        list,
+        b"object-group network G\n network-object host 10.0.0.9\n\
+            access-list M permit ip any object-group G\n\
+            access-list K permit ip object-group G any\n\
+            no object-group network G\n",
+    )?;
+    Ok(())
+}
+
+#[test]
+fn what_nothing_names_any_more_goes(rt: HostRuntime) -> Result<(), Fail> {
+    let config = configured(
+        rt.alloc(),
+        b"object network A\n host 10.0.0.9\n\
+            object-group network G\n network-object object A\n\
+            access-list M permit ip object-group G any\n\
+            no access-list M permit ip object-group G any\n\
+            no object-group network G\n\
+            no object network A\n",
+    )?;
+    assert_eq!(rt; config.objects().len(), 0);
+    assert_eq!(rt; config.pair_count(), 1);
+    Ok(())
+}
+
+#[test]
+fn a_list_has_the_members_of_its_groups_in_order(rt: HostRuntime) -> Result<(), Fail> {
+    let config = configured(
+        rt.alloc(),
+        b"object network A\n host 10.0.0.9\n\
+            object-group network G\n network-object 10.0.2.0 255.255.255.0\n network-object object A\n\
+            object-group network H\n network-object host 10.0.0.7\n group-object G\n\
+            object-group service W tcp\n port-object eq 80\n port-object eq 443\n\
+            access-list M permit tcp object-group H any object-group W\n",
+    )?;
+    assert_eq!(rt; config.pair_count(), 7);
+    let list = config.list(&name(b"M")?).ok_or("no list")?;
+    let boxes = config.boxes(rt.alloc(), list)?;
+    assert_eq!(rt; boxes.len(), 6);
+    let first = boxes.as_slice().first().ok_or("no box")?;
+    let last = boxes.as_slice().last().ok_or("no box")?;
+    assert_eq!(rt; first.source, Range::only(Addr(0x0a00_0007)));
+    assert_eq!(rt; first.service.dport, PortRange::only(80));
+    assert_eq!(rt; last.source, Range::only(Addr(0x0a00_0009)));
+    assert_eq!(rt; last.service.dport, PortRange::only(443));
+    Ok(())
+}
+
+/// Eighteen lines, each with four services from the one object to itself.
+const EIGHTEEN: &[u8] = b"access-list M permit tcp object W neq 1 object W neq 1\n\
+    access-list M permit tcp object W neq 1 object W neq 2\n\
+    access-list M permit tcp object W neq 1 object W neq 3\n\
+    access-list M permit tcp object W neq 1 object W neq 4\n\
+    access-list M permit tcp object W neq 1 object W neq 5\n\
+    access-list M permit tcp object W neq 1 object W neq 6\n\
+    access-list M permit tcp object W neq 1 object W neq 7\n\
+    access-list M permit tcp object W neq 1 object W neq 8\n\
+    access-list M permit tcp object W neq 1 object W neq 9\n\
+    access-list M permit tcp object W neq 1 object W neq 10\n\
+    access-list M permit tcp object W neq 1 object W neq 11\n\
+    access-list M permit tcp object W neq 1 object W neq 12\n\
+    access-list M permit tcp object W neq 1 object W neq 13\n\
+    access-list M permit tcp object W neq 1 object W neq 14\n\
+    access-list M permit tcp object W neq 1 object W neq 15\n\
+    access-list M permit tcp object W neq 1 object W neq 16\n\
+    access-list M permit tcp object W neq 1 object W neq 17\n\
+    access-list M permit tcp object W neq 1 object W neq 18\n";
+
+#[test]
+fn a_value_is_refused_under_which_there_are_too_many_pairs(rt: HostRuntime) -> Result<(), Fail> {
+    // A range from the second to the last but one address has 62 prefixes: 18 lines of 4 services have 276,768 pairs.
+    let pairs = EditFault::TooLarge { pairs: 276_769 };
+    let mut config = configured(rt.alloc(), b"object network W\n host 10.0.0.9\n")?;
+    take(rt.alloc(), &mut config, EIGHTEEN)?;
+    assert_eq!(rt; config.pair_count(), 73);
+    let wide: &[u8] = b"object network W\n range 0.0.0.1 255.255.255.254\n";
+    let blocks = cut_blocks(rt.alloc(), wide, 1)?.map_err(|_| "a line before the first block")?;
+    let block = blocks.as_slice().first().ok_or("no block")?;
+    let refusal = EditRefusal::At {
+        line: 1,
+        fault: pairs,
+    };
+    assert_eq!(rt; config.step(block, true), Err(refusal));
+    assert_eq!(rt; config.pair_count(), 73);
+    take(
+        rt.alloc(),
+        &mut config,
+        b"no access-list M permit tcp object W neq 1 object W neq 18\n",
+    )?;
+    assert_eq!(rt; config.step(block, true), Ok(()));
+    assert_eq!(rt; config.pair_count(), 261_393);
+    Ok(())
+}

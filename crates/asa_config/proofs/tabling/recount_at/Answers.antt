@@ -1,4 +1,4 @@
-use Rattle.std.proofs.Common.{◌≡◌, refl, sym}
+use Rattle.std.proofs.Common.{refl, sym}
 use Rattle.asa_config.proofs.RecountLaws.{length_set_at, recount_keyed, recount_told}
 use Rattle.asa_config.proofs.tabling.recount_at.Goals as goal
 

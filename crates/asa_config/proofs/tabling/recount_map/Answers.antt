@@ -1,4 +1,4 @@
-use Rattle.std.proofs.Common.{◌≡◌, refl, sym}
+use Rattle.std.proofs.Common.{refl, sym}
 use Rattle.asa_config.specs.Counted.{values}
 use Rattle.asa_config.proofs.RecountLaws.{recounted_none}
 use Rattle.asa_config.proofs.tabling.recount_map.Goals as goal

@@ -1,4 +1,4 @@
-use Rattle.std.proofs.Common.{◌≡◌, ◌≤◌, take, length}
+use Rattle.std.proofs.Common.{◌≡◌, take, length}
 use Rattle.std.specs.List.{sum}
 use Rattle.asa_config.specs.Counted.{values, recounted, Keyed}
 use Rattle.asa_config.proofs.tabling.recount_map.Given as goal

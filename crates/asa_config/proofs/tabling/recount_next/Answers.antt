@@ -1,5 +1,4 @@
-use Rattle.std.proofs.Common.{◌≡◌, ◌+◌, ◌≤◌, sym, ap, ◌∙◌, length, map, arith}
-use Rattle.std.proofs.lemmas.List.{length-map}
+use Rattle.std.proofs.Common.{arith}
 use Rattle.asa_config.proofs.RecountLaws.{recount_one, sum_taken, length_values}
 use Rattle.asa_config.proofs.tabling.recount_next.Goals as goal
 

@@ -6,5 +6,6 @@ use Rattle.asa_config.proofs.configuring.Config.boxes.Goals as goal
 
 pub returns-clause-pairs : goal.returns-clause-pairs
 returns-clause-pairs c =
-    subst (λ is. IfOk c.boxes.result (λ bs. sum_by box_pairs bs ≡ list_pairs (meanings_in is) c.args.list.now.lines)) c.scope.ensures
-    (subst (λ ls. IfOk c.boxes.result (λ bs. sum_by box_pairs bs ≡ list_pairs (meanings_in c.scope.result.ifaces.now) ls)) c.lines.ensures.value c.boxes.ensures.pairs)
+    subst (λ is. IfOk c.boxes.result (λ bs. sum_by box_pairs bs ≡ list_pairs (meanings_in c.args.self.now.objects is) c.args.list.now.lines)) c.scope.ensures.ifaces
+    (subst (λ os. IfOk c.boxes.result (λ bs. sum_by box_pairs bs ≡ list_pairs (meanings_in os c.scope.result.ifaces.now) c.args.list.now.lines)) c.scope.ensures.objects
+    (subst (λ ls. IfOk c.boxes.result (λ bs. sum_by box_pairs bs ≡ list_pairs (meanings_in c.scope.result.objects.now c.scope.result.ifaces.now) ls)) c.lines.ensures.value c.boxes.ensures.pairs))

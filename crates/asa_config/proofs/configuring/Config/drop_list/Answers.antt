@@ -1,12 +1,9 @@
-use Rattle.std.proofs.Common.{◌≡◌, ◌+◌, ◌≤◌, ◌<◌, true, false, length, is_some, OnOk, OnErr, Some, None, refl, subst, sym, ap, ◌∙◌}
+use Rattle.std.proofs.Common.{◌≡◌, true, false, is_some, subst, sym, ap, ◌∙◌}
 use Rattle.asa_config.specs.contracts.configuring.Config.{the_view}
-use Rattle.asa_config.specs.Settings.{list_among, list_named}
+use Rattle.asa_config.specs.Settings.{list_named}
 use Rattle.asa_config.specs.Counted.{lists_in}
-use Rattle.asa_config.specs.Knowing.{meanings_in, meanings_of, pair_count}
 use Rattle.asa_config.specs.Lists as spec
 use Rattle.asa_config.specs.Groups as groups
-use Rattle.asa_config.specs.Soundness.{TakesPairs, is_global_defined}
-use Rattle.asa_config.proofs.KeptLaws.{on_ok, on_err}
 use Rattle.asa_config.proofs.TakenLaws.{there_counted, kept_dropped, lists_without_counted}
 use Rattle.asa_config.proofs.configuring.Config.drop_list.Goals as goal
 
@@ -15,7 +12,7 @@ remove-requires c = there_counted c.self.inside.table c.args.name.now (subst (λ
 
 pub invariant_of-self : goal.invariant_of-self
 invariant_of-self c =
-    kept_dropped c.self.inside.net c.self.inside.table c.remove.new.self c.self.inside.bound.items c.self.inside.global c.args.name.now c.self.invariant
+    kept_dropped c.self.inside.objects c.self.inside.net c.self.inside.table c.remove.new.self c.self.inside.bound.items c.self.inside.global c.args.name.now c.self.invariant
     (subst (λ s. groups.is_bound s c.args.name.now ≡ false) (sym c.self.view_is) c.requires.unbound) c.remove.ensures
 
 pub returns : goal.returns

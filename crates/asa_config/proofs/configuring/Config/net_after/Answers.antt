@@ -1,4 +1,4 @@
-use Rattle.std.proofs.Common.{◌≡◌, ◌≤◌, length, subst, sym, ap, ◌∙◌}
+use Rattle.std.proofs.Common.{◌≤◌, length, subst}
 use Rattle.asa_config.proofs.NetLaws.{grows}
 use Rattle.asa_config.proofs.configuring.Config.net_after.Goals as goal
 

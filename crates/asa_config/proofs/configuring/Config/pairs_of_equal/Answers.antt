@@ -1,4 +1,4 @@
-use Rattle.std.proofs.Common.{◌≡◌, get_or, sym, ap, ◌∙◌}
+use Rattle.std.proofs.Common.{get_or, sym, ap, ◌∙◌}
 use Rattle.asa_boxes.specs.Pairs.{line_pairs}
 use Rattle.asa_config.specs.Knowing.{meanings_of}
 use Rattle.asa_config.proofs.KeptLaws.{if_ok}

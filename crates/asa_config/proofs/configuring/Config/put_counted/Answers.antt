@@ -1,6 +1,6 @@
-use Rattle.std.proofs.Common.{◌≡◌, ◌+◌, ◌≤◌, ◌<◌, true, false, length, is_some, OnOk, OnErr, Some, None, subst, sym, ap, ◌∙◌}
+use Rattle.std.proofs.Common.{◌≡◌, ◌+◌, ◌≤◌, true, OnOk, subst, sym, ap, ◌∙◌}
 use Rattle.asa_config.specs.contracts.configuring.Config.{the_view}
-use Rattle.asa_config.specs.Settings.{list_among, list_named}
+use Rattle.asa_config.specs.Settings.{list_among}
 use Rattle.asa_config.specs.Counted.{lists_in}
 use Rattle.asa_config.specs.Knowing.{meanings_in, meanings_of, pair_count}
 use Rattle.asa_config.specs.Lists as spec
@@ -17,12 +17,12 @@ put-requires-clause-room c =
 
 pub put-requires-clause-few : goal.put-requires-clause-few
 put-requires-clause-few c =
-    subst (λ n. n + c.args.pairs ≤ 262144) (sym (pairs_counted (meanings_in c.self.inside.net.ifaces) c.self.inside.table c.self.invariant.counted))
+    subst (λ n. n + c.args.pairs ≤ 262144) (sym (pairs_counted (meanings_in c.self.inside.objects c.self.inside.net.ifaces) c.self.inside.table c.self.invariant.counted))
     (subst (λ s. pair_count s + c.args.pairs ≤ 262144) (sym c.self.view_is) c.requires.few)
 
 pub invariant_of-self : goal.invariant_of-self
 invariant_of-self c =
-    kept_answer c.put.result c.self.inside.net c.self.inside.table c.put.new.self c.self.inside.bound.items c.self.inside.global c.args.new c.args.pairs c.self.invariant
+    kept_answer c.put.result c.self.inside.objects c.self.inside.net c.self.inside.table c.put.new.self c.self.inside.bound.items c.self.inside.global c.args.new c.args.pairs c.self.invariant
     (subst (λ s. c.args.pairs ≡ line_pairs (meanings_of s) c.args.new.item) (sym c.self.view_is) c.requires.told) c.put.ensures.ok c.put.ensures.err
 
 pub returns-clause-ok : goal.returns-clause-ok

@@ -1,4 +1,4 @@
-use Rattle.std.proofs.Common.{◌≡◌, true, subst, sym, ap, ◌∙◌}
+use Rattle.std.proofs.Common.{subst, sym}
 use Rattle.asa_config.specs.contracts.configuring.Config.{the_view}
 use Rattle.asa_config.specs.Judging.{Makes}
 use Rattle.asa_config.specs.Net.{route_put, with_net}
@@ -8,7 +8,7 @@ use Rattle.asa_config.proofs.configuring.Config.put_route.Goals as goal
 
 pub invariant_of-self : goal.invariant_of-self
 invariant_of-self c =
-    kept_net c.self.inside.net c.put_route.new.self c.self.inside.table c.self.inside.bound.items c.self.inside.global
+    kept_net c.self.inside.objects c.self.inside.net c.put_route.new.self c.self.inside.table c.self.inside.bound.items c.self.inside.global
     (route_keeps c.put_route.result c.self.inside.net c.put_route.new.self c.args.route c.put_route.ensures) c.self.invariant
 
 pub returns : goal.returns

@@ -1,22 +1,21 @@
-use Rattle.std.proofs.Common.{◌≡◌, ◌+◌, ◌≤◌, ◌<◌, true, false, length, is_some, OnOk, OnErr, Some, None, refl, subst, sym, ap, ◌∙◌}
+use Rattle.std.proofs.Common.{◌≡◌, OnOk, subst, sym, ap, ◌∙◌}
 use Rattle.asa_config.specs.contracts.configuring.Config.{the_view}
-use Rattle.asa_config.specs.Settings.{list_among, list_named}
+use Rattle.asa_config.specs.Settings.{list_among}
 use Rattle.asa_config.specs.Counted.{lists_in}
-use Rattle.asa_config.specs.Knowing.{meanings_in, meanings_of, pair_count}
+use Rattle.asa_config.specs.Knowing.{meanings_in, meanings_of}
 use Rattle.asa_config.specs.Lists as spec
-use Rattle.asa_config.specs.Groups as groups
-use Rattle.asa_config.specs.Soundness.{TakesPairs, is_global_defined}
+use Rattle.asa_config.specs.Soundness.{TakesPairs}
 use Rattle.asa_config.proofs.KeptLaws.{on_ok, on_err}
 use Rattle.asa_config.proofs.TakenLaws.{takes_at_most, kept_taken_answer, lists_taken}
 use Rattle.asa_config.proofs.configuring.Config.take_counted.Goals as goal
 
 pub take-requires : goal.take-requires
-take-requires c = takes_at_most (meanings_in c.self.inside.net.ifaces) c.self.inside.table c.args.name.now c.args.item.now c.args.pairs c.self.invariant.counted
+take-requires c = takes_at_most (meanings_in c.self.inside.objects c.self.inside.net.ifaces) c.self.inside.table c.args.name.now c.args.item.now c.args.pairs c.self.invariant.counted
     (subst (λ s. TakesPairs (meanings_of s) c.args.item.now c.args.pairs (list_among s.lists c.args.name.now)) (sym c.self.view_is) c.requires)
 
 pub invariant_of-self : goal.invariant_of-self
 invariant_of-self c =
-    kept_taken_answer c.take.result c.self.inside.net c.self.inside.table c.take.new.self c.self.inside.bound.items c.self.inside.global c.args.name.now c.args.item.now c.args.pairs c.self.invariant
+    kept_taken_answer c.take.result c.self.inside.objects c.self.inside.net c.self.inside.table c.take.new.self c.self.inside.bound.items c.self.inside.global c.args.name.now c.args.item.now c.args.pairs c.self.invariant
     (subst (λ s. TakesPairs (meanings_of s) c.args.item.now c.args.pairs (list_among s.lists c.args.name.now)) (sym c.self.view_is) c.requires) c.take.ensures.ok c.take.ensures.err
 
 pub returns-clause-ok : goal.returns-clause-ok

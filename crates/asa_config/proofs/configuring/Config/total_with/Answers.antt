@@ -1,4 +1,4 @@
-use Rattle.std.proofs.Common.{◌≡◌, ◌+◌, sym, ap, ◌∙◌, arith}
+use Rattle.std.proofs.Common.{◌+◌, sym, ap, ◌∙◌}
 use Rattle.asa_config.specs.Knowing.{meanings_of}
 use Rattle.asa_config.proofs.PutLaws.{pairs_put_in}
 use Rattle.asa_config.proofs.configuring.Config.total_with.Goals as goal

@@ -1,6 +1,4 @@
-use Rattle.std.proofs.Common.{◌≡◌, ◌+◌, sym, subst, ◌∙◌, rules}
-use Rattle.std.specs.Str.{bytes_eq}
-use Rattle.asa_config.specs.Counted.{IsTable}
+use Rattle.std.proofs.Common.{sym}
 use Rattle.asa_config.proofs.TableLaws.{table_begun, values_begun}
 use Rattle.asa_config.proofs.tabling.ListTable.begin.Goals as goal
 

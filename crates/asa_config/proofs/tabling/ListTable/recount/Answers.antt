@@ -1,4 +1,4 @@
-use Rattle.std.proofs.Common.{◌≡◌, sym}
+use Rattle.std.proofs.Common.{sym}
 use Rattle.asa_config.proofs.RecountLaws.{table_recounted}
 use Rattle.asa_config.proofs.tabling.ListTable.recount.Goals as goal
 

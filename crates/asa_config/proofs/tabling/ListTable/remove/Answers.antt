@@ -1,4 +1,4 @@
-use Rattle.std.proofs.Common.{sym, subst, ◌∙◌, ap, ◌-◌, ◌≤◌}
+use Rattle.std.proofs.Common.{sym, subst, ◌∙◌, ◌-◌, ◌≤◌}
 use Rattle.asa_config.specs.Counted.{IsTable}
 use Rattle.asa_config.proofs.TableLaws.{table_removed, removed_at_most, not_there}
 use Rattle.asa_config.proofs.tabling.ListTable.remove.Goals as goal

@@ -1,0 +1,11 @@
+use Rattle.std.proofs.Common.{◌≡◌, IfOk, subst, ap, ◌∙◌}
+use Rattle.asa_config.specs.Counted.{lists_in}
+use Rattle.asa_config.specs.Knowing.{meanings_in, pairs_of_lists, pair_count}
+use Rattle.asa_config.specs.Objects.{with_objects}
+use Rattle.asa_config.proofs.KeptLaws.{if_ok}
+use Rattle.asa_config.proofs.configuring.Config.count_with.Goals as goal
+
+pub returns-clause-total : goal.returns-clause-total
+returns-clause-total c =
+    subst (λ s. IfOk c.count_lists.result (λ n. n.total ≡ pair_count (with_objects s c.args.objects.now))) c.self.view_is
+    (if_ok c.count_lists.result (λ n h. h.1 ∙ ap (λ is. pairs_of_lists (meanings_in c.args.objects.now is) (lists_in c.self.inside.table)) c.ifaces.ensures.value) c.count_lists.ensures)

@@ -1,0 +1,79 @@
+-- Blocks of objects and groups, and the lines that remove one.
+use Rattle.std.specs.Prelude.{◌≡◌, ℕ, true, List, Option, Some, None, find, Result, Ok, Err}
+use Rattle.std.specs.Option.{option_map}
+use Rattle.asa_text.specs.declared.grouping.Block.{Block}
+use Rattle.asa_acl.specs.Lists.{AccessLines, list_uses}
+use Rattle.asa_members.specs.Tops.{removal_at}
+use Rattle.asa_objects.specs.declared.faults.ObjectFault.{ObjectFault}
+use Rattle.asa_objects.specs.declared.faults.ObjectFault.TheVariants as object
+use Rattle.asa_objects.specs.Defining.{defined}
+use Rattle.asa_objects.specs.Keeping.{ForName}
+use Rattle.asa_objects.specs.Tables.{Table, user_of, without_name, reaches}
+use Rattle.asa_config.specs.declared.refusing.EditFault.TheVariants.{Bad, Unsupported, Unknown, NameTaken, NoSuchLine, InUse, Cycle, TooMany, NotBuilt}
+use Rattle.asa_config.specs.declared.refusing.EditRefusal.{EditRefusal}
+use Rattle.asa_config.specs.declared.refusing.EditRefusal.TheVariants.{At, NoMemory}
+use Rattle.asa_config.specs.Settings.{Settings}
+use Rattle.asa_config.specs.Knowing.{known_of}
+use Rattle.asa_config.specs.Fitting.{fitting}
+use Rattle.asa_config.specs.Judging.{Judged, ◌>>=◌, refused, top_read, alone}
+
+-- the refusal of a block for a fault of its object or group
+abbrev pub object_refusal : ObjectFault → EditRefusal
+object_refusal object.NameTaken = At 1 NameTaken
+object_refusal (object.Unknown line column) = At line (Unknown column)
+object_refusal (object.Bad line column) = At line (Bad column)
+object_refusal (object.Unsupported line column) = At line (Unsupported column)
+object_refusal (object.Cycle line) = At line Cycle
+object_refusal (object.NoSuchMember line) = At line NoSuchLine
+object_refusal (object.NotBuilt line) = At line NotBuilt
+object_refusal object.TooMany = At 1 TooMany
+object_refusal object.NoMemory = NoMemory
+
+-- what the table is after a block
+abbrev pub of_objects : Result Table ObjectFault → Judged Table
+of_objects (Ok table) = Ok table
+of_objects (Err fault) = Err (object_refusal fault)
+
+-- what a block answers
+abbrev pub told : Result (Unit {0}) ObjectFault → Judged (Unit {0})
+told (Ok u) = Ok u
+told (Err fault) = Err (object_refusal fault)
+
+-- the configuration with other objects and groups
+abbrev pub with_objects : Settings → Table → Settings
+with_objects c objects = record c { objects = objects }
+
+-- the configuration with other objects and groups, as far as it fits
+abbrev pub changed : Settings → Table → Judged Settings
+changed c objects = fitting (with_objects c objects)
+
+-- `object ..` or `object-group ..` with its lines
+unfoldable pub object_step : Settings → Block → Judged Settings
+object_step c b = do
+  objects ← of_objects (defined c.objects b)
+  changed c objects
+
+-- the first list with a line that names the object or group
+abbrev pub list_using : List AccessLines → List ℕ → Option (List ℕ)
+list_using lists name = option_map (λ l. l.name) (find (list_uses name) lists)
+
+-- no list names what a block defines, or a group that leads to it
+abbrev pub IsApart : Settings → Block → Type 0
+IsApart c b = ForName b (λ name. (q : List ℕ) → reaches c.objects q name ≡ true → list_using c.lists q ≡ None)
+
+-- nothing names it, or that is the refusal
+abbrev pub free_of : Option (List ℕ) → Judged (Unit {0})
+free_of None = Ok tt
+free_of (Some user) = refused 1 (InUse user)
+
+-- no group and no list names the object or group; else the least group by bytes, or else the first list, is told
+abbrev pub unused : Settings → List ℕ → Judged (Unit {0})
+unused c name = free_of (user_of c.objects name) >>= λ _. free_of (list_using c.lists name)
+
+-- `no object ..` or `no object-group ..`
+unfoldable pub no_object_step : Settings → Block → Judged Settings
+no_object_step c b = do
+  removal ← top_read b (removal_at (known_of c))
+  _ ← alone b
+  _ ← unused c removal.name
+  changed c (without_name c.objects removal.name)
