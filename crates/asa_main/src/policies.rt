@@ -1,8 +1,12 @@
-//! Whole runs over configurations of interfaces, routes and lists. The expected reports are worked by hand.
-use crate::examples::{LIST_EDITS, LIST_EDITS_ANSWERS};
+//! Whole runs over configurations of interfaces, routes, lists, objects and groups. The expected reports are worked by hand.
+use crate::examples::{
+    BRANCH, BRANCH_ANSWERS, BRANCH_CHANGED_ANSWERS, BRANCH_CHANGES, BRANCH_PACKETS, LIST_EDITS,
+    LIST_EDITS_ANSWERS, OFFICE, OFFICE_ANSWERS,
+};
 use crate::tests::{BASE, WEB_LIST, ran};
 use crate::{Status, write_status};
 use asa_io::MemorySink;
+use asa_text::push_number;
 use std::alloc::{AllocError, Global};
 use std::sync::Wait;
 use std::test::Fail;
@@ -153,19 +157,22 @@ done 2
 
 #[test]
 fn what_is_not_built_is_refused_at_its_line(rt: HostRuntime) -> Result<(), Fail> {
-    for block in [
-        b"object network LAN\n subnet 10.0.0.0 255.255.255.0\n".as_slice(),
-        b"object service WEB\n service tcp destination eq 80\n",
-        b"object-group network SERVERS\n network-object host 10.0.0.80\n",
-        b"nat (inside,outside) source dynamic any interface\n",
-        b"asp rule-engine transactional-commit access-group\n",
+    for (block, wanted) in [
+        (
+            b"nat (inside,outside) source dynamic any interface\n".as_slice(),
+            b"asa: line 10: not-built\n".as_slice(),
+        ),
+        (
+            b"object network LAN\n subnet 10.0.0.0 255.255.255.0\n nat (inside,outside) dynamic interface\n",
+            b"asa: line 12: not-built\n",
+        ),
+        (
+            b"asp rule-engine transactional-commit access-group\n",
+            b"asa: line 10: not-built\n",
+        ),
     ] {
         let text = told(&rt, rt.alloc(), &[BASE, block, b": end\n"])?;
-        assert_eq!(rt;
-            text.as_slice(),
-            b"asa: line 10: not-built\n".as_slice(),
-            "in {block:?}"
-        );
+        assert_eq!(rt; text.as_slice(), wanted, "in {block:?}");
     }
     Ok(())
 }
@@ -181,6 +188,22 @@ fn an_indented_line_before_any_block_is_out_of_form(rt: HostRuntime) -> Result<(
 fn the_configuration_after_the_last_edit_rules(rt: HostRuntime) -> Result<(), Fail> {
     let report = told(&rt, rt.alloc(), &[LIST_EDITS])?;
     assert_eq!(rt; report.as_slice(), LIST_EDITS_ANSWERS);
+    Ok(())
+}
+
+#[test]
+fn lists_decide_by_the_objects_and_groups_that_they_name(rt: HostRuntime) -> Result<(), Fail> {
+    let report = told(&rt, rt.alloc(), &[OFFICE])?;
+    assert_eq!(rt; report.as_slice(), OFFICE_ANSWERS);
+    Ok(())
+}
+
+#[test]
+fn a_changed_object_or_group_changes_each_list_that_names_it(rt: HostRuntime) -> Result<(), Fail> {
+    let before = told(&rt, rt.alloc(), &[BRANCH, BRANCH_PACKETS])?;
+    assert_eq!(rt; before.as_slice(), BRANCH_ANSWERS);
+    let after = told(&rt, rt.alloc(), &[BRANCH, BRANCH_CHANGES, BRANCH_PACKETS])?;
+    assert_eq!(rt; after.as_slice(), BRANCH_CHANGED_ANSWERS);
     Ok(())
 }
 
@@ -230,5 +253,245 @@ fn each_refusal_of_a_startup_line_is_told_with_its_place(rt: HostRuntime) -> Res
         let text = told(&rt, rt.alloc(), &[BASE, block, b": end\n"])?;
         assert_eq!(rt; text.as_slice(), wanted, "in {block:?}");
     }
+    Ok(())
+}
+
+#[test]
+fn an_object_that_cannot_stand_is_refused_at_its_line(rt: HostRuntime) -> Result<(), Fail> {
+    for (block, wanted) in [
+        (
+            b"object network A\n".as_slice(),
+            b"asa: line 10: bad 17\n".as_slice(),
+        ),
+        (
+            b"object network A\n range 10.0.0.9 10.0.0.8\n",
+            b"asa: line 11: bad 17\n",
+        ),
+        (
+            b"object network A\n fqdn www.example.com\n",
+            b"asa: line 11: unsupported 2\n",
+        ),
+        (
+            b"object service S\n service tcp destination lt 0\n",
+            b"asa: line 11: bad 29\n",
+        ),
+        (b"no object network A\n", b"asa: line 10: unknown 19\n"),
+        (
+            b"object network A\n host 10.0.0.9\nno object service A\n",
+            b"asa: line 12: bad 19\n",
+        ),
+    ] {
+        let text = told(&rt, rt.alloc(), &[BASE, block, b": end\n"])?;
+        assert_eq!(rt; text.as_slice(), wanted, "in {block:?}");
+    }
+    Ok(())
+}
+
+#[test]
+fn a_name_is_that_of_one_kind_of_object_or_group(rt: HostRuntime) -> Result<(), Fail> {
+    for (block, wanted) in [
+        (
+            b"object-group service P tcp\nobject-group service P udp\n".as_slice(),
+            b"asa: line 11: name-taken\n".as_slice(),
+        ),
+        (
+            b"object network A\n host 10.0.0.9\nobject service A\n service tcp\n",
+            b"asa: line 12: name-taken\n",
+        ),
+        (b"object-group user U\n", b"asa: line 10: unsupported 14\n"),
+    ] {
+        let text = told(&rt, rt.alloc(), &[BASE, block, b": end\n"])?;
+        assert_eq!(rt; text.as_slice(), wanted, "in {block:?}");
+    }
+    Ok(())
+}
+
+#[test]
+fn a_group_has_groups_of_its_own_kind_that_do_not_reach_it(rt: HostRuntime) -> Result<(), Fail> {
+    for (block, wanted) in [
+        (
+            b"object-group network G\n group-object H\n".as_slice(),
+            b"asa: line 11: unknown 15\n".as_slice(),
+        ),
+        (
+            b"object-group network G\n group-object G\n",
+            b"asa: line 11: cycle\n",
+        ),
+        (
+            b"object-group network G\nobject-group network H\n group-object G\nobject-group network G\n group-object H\n",
+            b"asa: line 14: cycle\n",
+        ),
+        (
+            b"object-group service P tcp\nobject-group service Q udp\n group-object P\n",
+            b"asa: line 12: bad 15\n",
+        ),
+    ] {
+        let text = told(&rt, rt.alloc(), &[BASE, block, b": end\n"])?;
+        assert_eq!(rt; text.as_slice(), wanted, "in {block:?}");
+    }
+    Ok(())
+}
+
+#[test]
+fn a_member_that_cannot_stand_is_refused_at_its_line(rt: HostRuntime) -> Result<(), Fail> {
+    for (block, wanted) in [
+        (
+            b"object-group service P tcp\n port-object range 9 8\n".as_slice(),
+            b"asa: line 11: bad 22\n".as_slice(),
+        ),
+        (
+            b"object-group network G\n network-object host 10.0.0.9\n no network-object host 10.0.0.8\n",
+            b"asa: line 12: no-such-line\n",
+        ),
+        (
+            b"object-group network G\n network-object 10.0.0.9 255.255.255.0\n",
+            b"asa: line 11: bad 26\n",
+        ),
+        (
+            b"object service S\n service tcp\nobject-group network G\n network-object object S\n",
+            b"asa: line 13: bad 24\n",
+        ),
+        (
+            b"object-group icmp-type I\n no description\n",
+            b"asa: line 11: bad 2\n",
+        ),
+    ] {
+        let text = told(&rt, rt.alloc(), &[BASE, block, b": end\n"])?;
+        assert_eq!(rt; text.as_slice(), wanted, "in {block:?}");
+    }
+    Ok(())
+}
+
+#[test]
+fn what_a_group_or_a_list_names_is_not_removed(rt: HostRuntime) -> Result<(), Fail> {
+    let named = b"object network A
+ host 10.0.0.9
+object network B
+ host 10.0.0.8
+object-group network H
+ network-object object A
+object-group network G
+ network-object object A
+object-group network T
+ group-object G
+object-group service P tcp
+access-list Z permit tcp any object B object-group P
+access-list L permit ip object-group H object B
+";
+    for (block, wanted) in [
+        (
+            b"no object network A\n".as_slice(),
+            b"asa: line 23: in-use G\n".as_slice(),
+        ),
+        (b"no object-group network G\n", b"asa: line 23: in-use T\n"),
+        (b"no object network B\n", b"asa: line 23: in-use Z\n"),
+        (b"no object-group service P\n", b"asa: line 23: in-use Z\n"),
+        (b"no object-group network H\n", b"asa: line 23: in-use L\n"),
+    ] {
+        let text = told(&rt, rt.alloc(), &[BASE, named, block, b": end\n"])?;
+        assert_eq!(rt; text.as_slice(), wanted, "in {block:?}");
+    }
+    Ok(())
+}
+
+#[test]
+fn a_list_line_takes_names_of_the_kind_of_their_place(rt: HostRuntime) -> Result<(), Fail> {
+    for (block, wanted) in [
+        (
+            b"access-list L permit ip any object A\n".as_slice(),
+            b"asa: line 10: unknown 36\n".as_slice(),
+        ),
+        (
+            b"object network A\n host 10.0.0.9\naccess-list L permit ip any object-group A\n",
+            b"asa: line 12: bad 42\n",
+        ),
+        (
+            b"object-group network G\naccess-list L permit object-group G any any\n",
+            b"asa: line 11: bad 35\n",
+        ),
+        (
+            b"object-group service P udp\naccess-list L permit tcp any any object-group P\n",
+            b"asa: line 11: bad 47\n",
+        ),
+        (
+            b"object-group service P tcp\naccess-list L permit gre any object-group P any\n",
+            b"asa: line 11: bad 43\n",
+        ),
+        (
+            b"object-group service S\naccess-list L permit object-group S any any eq 80\n",
+            b"asa: line 11: bad 45\n",
+        ),
+    ] {
+        let text = told(&rt, rt.alloc(), &[BASE, block, b": end\n"])?;
+        assert_eq!(rt; text.as_slice(), wanted, "in {block:?}");
+    }
+    Ok(())
+}
+
+#[test]
+fn a_group_whose_new_member_makes_too_many_pairs_is_refused(rt: HostRuntime) -> Result<(), Fail> {
+    // 62 networks of a range, twice, and eight services of each member: 246,016 pairs with eight members.
+    let blocks = b"object network R
+ range 0.0.0.1 255.255.255.254
+object-group service S
+ service-object tcp-udp source neq 1 destination neq 1
+ service-object tcp-udp source neq 2 destination neq 2
+ service-object tcp-udp source neq 3 destination neq 3
+ service-object tcp-udp source neq 4 destination neq 4
+ service-object tcp-udp source neq 5 destination neq 5
+ service-object tcp-udp source neq 6 destination neq 6
+ service-object tcp-udp source neq 7 destination neq 7
+ service-object tcp-udp source neq 8 destination neq 8
+access-list L permit object-group S object R object R
+";
+    let more = b"object-group service S
+ service-object tcp-udp source neq 9 destination neq 9
+: end
+";
+    let text = told(&rt, rt.alloc(), &[BASE, blocks, more])?;
+    assert_eq!(rt;
+        text.as_slice(),
+        b"asa: line 22: too-large 276768\n".as_slice()
+    );
+    Ok(())
+}
+
+// A block of a network group of 512 hosts, of which `front` states all but the last two octets.
+fn hosts_block(alloc: Global, top: &[u8], front: &[u8]) -> Result<Vec<u8>, AllocError> {
+    let mut block = Vec::from_slice(alloc, top)?;
+    for host in 0..512u64 {
+        block.extend_from_slice(front)?;
+        push_number(&mut block, host / 256)?;
+        block.extend_from_slice(b".")?;
+        push_number(&mut block, host % 256)?;
+        block.extend_from_slice(b"\n")?;
+    }
+    Ok(block)
+}
+
+#[test]
+fn as_many_prefix_pairs_as_there_may_be_are_taken_and_not_one_more(
+    rt: HostRuntime,
+) -> Result<(), Fail> {
+    // 512 hosts times 512 hosts are 262,144 pairs, which line 1036 makes.
+    let a = hosts_block(
+        rt.alloc(),
+        b"object-group network A\n",
+        b" network-object host 10.8.",
+    )?;
+    let b = hosts_block(
+        rt.alloc(),
+        b"object-group network B\n",
+        b" network-object host 10.9.",
+    )?;
+    let lines = b"access-list BIG extended permit ip object-group A object-group B
+access-list BIG extended permit ip any any
+: end
+";
+    let text = told(&rt, rt.alloc(), &[BASE, a.as_slice(), b.as_slice(), lines])?;
+    assert_eq!(rt;
+        text.as_slice(),
+        b"asa: line 1037: too-large 262145\n".as_slice()
+    );
     Ok(())
 }

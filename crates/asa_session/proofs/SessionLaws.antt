@@ -1,5 +1,5 @@
 -- What holds of each session that a text gives.
-use Rattle.std.proofs.Common.{◌≡◌, ℕ, suc, true, ◌+◌, ◌≤◌, List, [], ◌∷◌, length, map, All, Option, Some, None, Ok, refl, sym, ap, subst, arith}
+use Rattle.std.proofs.Common.{◌≡◌, ℕ, suc, true, Bool, ◌+◌, ◌≤◌, List, [], ◌∷◌, length, map, All, Option, Some, None, is_some, unwrap_or, Result, Ok, refl, sym, ap, subst, ◌∙◌, arith}
 use Rattle.std.specs.List.{fold, range_with_len}
 use Rattle.std.proofs.lemmas.List.{append-nil}
 use Rattle.std.proofs.lemmas.List.Elements.{All-cons, All-head, All-tail}
@@ -13,10 +13,11 @@ use Rattle.asa_config.specs.Steps.{after_block, config_of}
 use Rattle.asa_session.specs.declared.scripting.Command.{Command}
 use Rattle.asa_session.specs.declared.scripting.Command.TheVariants as command
 use Rattle.asa_session.specs.declared.scripting.Session.{Session}
-use Rattle.asa_session.specs.Judging.{and_then}
+use Rattle.asa_session.specs.declared.scripting.SessionError.{SessionError}
+use Rattle.asa_session.specs.Judging.{Judged, and_then}
 use Rattle.asa_session.specs.Starting.{kept_of, passed_count, startup_config}
 use Rattle.asa_session.specs.Scripts.{script_packets}
-use Rattle.asa_session.specs.Sessions.{commands_from, session_with, with_script, startup_blocks, session_of_lines}
+use Rattle.asa_session.specs.Sessions.{commands_from, session_with, with_packets, with_script, startup_blocks, session_of_lines}
 use Rattle.asa_session.specs.Readiness.{IsReady, enters_named, commands_of}
 use Rattle.asa_session.proofs.StartingLaws.{and_then_ok, startup_ok}
 use Rattle.asa_session.proofs.ScriptLaws.{AreCarried, script_carried}
@@ -68,3 +69,18 @@ session_is_ready ls s e =
     let c = and_then_ok (startup_config nothing (kept_of b.0)) (with_script (length ls) b.0 (after_end ls)) s b.2 in
     let w = with_script_ok (length ls) b.0 (after_end ls) c.0 s c.2 in
     subst IsReady w.2 (ready_with (kept_of b.0) (passed_count b.0) c.0 w.0 (startup_ok nothing (kept_of b.0) c.0 c.1) w.1)
+
+-- the lines after `: end`, where it is there
+pub ended_some : (o : Option (List Line)) (ended : Bool) (left : List Line) → ended ≡ is_some o → ended ≡ true → left ≡ unwrap_or o [] → o ≡ Some left
+ended_some (Some lines) ended left there is told = ap Some (sym told)
+ended_some None ended left there is told = absurd (cc)
+
+-- the session of lines whose parts are read
+pub session_read : (r : Result Session SessionError) (ls : List Line) (bs kept : List Block) (n : ℕ) (c : Settings) (script : List Line) → startup_blocks (blocks_of (before_end ls)) ≡ Ok bs
+    → kept ≡ kept_of bs → n ≡ passed_count bs → startup_config nothing (kept_of bs) ≡ Ok c → after_end ls ≡ Some script → Judged r (with_packets kept n c script) → Judged r (session_of_lines ls)
+unfolding session_of_lines
+session_read r ls bs kept n c script blocks is_kept is_passed configured ended judged =
+    subst (Judged r)
+    (ap (λ k. with_packets k n c script) is_kept ∙ ap (λ k. with_packets (kept_of bs) k c script) is_passed ∙ ap (λ o. with_script (length ls) bs o c) (sym ended)
+    ∙ ap (λ s. and_then s (with_script (length ls) bs (after_end ls))) (sym configured)
+    ∙ ap (λ b. and_then b (λ given. and_then (startup_config nothing (kept_of given)) (with_script (length ls) given (after_end ls)))) (sym blocks)) judged

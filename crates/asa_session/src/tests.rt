@@ -120,7 +120,7 @@ fn a_startup_line_is_refused_at_its_number(rt: HostRuntime) {
         (
             3,
             SessionKind::Startup(EditFault::NotBuilt),
-            b"interface G0\n nameif outside\nobject network N\n host 10.0.0.9\n: end\n",
+            b"interface G0\n nameif outside\nnat (any,any) source static any any\n: end\n",
         ),
         (
             3,
