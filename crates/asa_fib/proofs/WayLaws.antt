@@ -1,7 +1,7 @@
 -- The better of two ways: no matter how they are grouped or ordered.
 use Rattle.std.proofs.Common.{◌≡◌, ℕ, ◌<◌, Bool, true, false, cond, ◌+◌, suc, ◌⊎◌, inl, inr, List, [], ◌∷◌, length, filter, get_or, drop, Option, Some, None, refl, sym, ap, ◌∙◌, arith, add-one, drop-cons}
 use Rattle.std.proofs.lemmas.Bool.Decides.{nat_tests}
-use Rattle.std.specs.Option.{option_map}
+use Rattle.std.specs.Option.{IfSome, option_map}
 use Rattle.asa_text.specs.declared.numbering.Addr.{Addr}
 use Rattle.asa_trie.specs.Bits.{covers_number}
 use Rattle.asa_trie.specs.Tries.{Laws, sum_over, Grown}
@@ -61,6 +61,16 @@ pub best_is_sum : (rs : List Route) → best_of rs ≡ sum_over ways value_of rs
 best_is_sum [] = refl
 best_is_sum (r ∷ rs) = ap (λ b. better (Some (way_of r)) b) (best_is_sum rs)
 
+-- of two ways that have a property the better one has it
+pub better_keeps : (P : Way → Type 0) (a b : Option Way) → IfSome a P → IfSome b P → IfSome (better a b) P
+better_keeps P None b p q = q
+better_keeps P (Some a) None p q = p
+better_keeps P (Some a) (Some b) p q = chosen (beats b a)
+  where
+    chosen : (c : Bool) → P (cond c b a)
+    chosen true = q
+    chosen false = p
+
 -- one more route of a list is looked at
 pub best_step : (p : Route → Bool) (routes : List Route) (i : ℕ) (x : Route) (b b' : Option Way) → i < length routes → x ≡ get_or routes i x
     → ((p x ≡ true) × (b' ≡ better b (Some (way_of x)))) ⊎ ((p x ≡ false) × (b' ≡ b))
@@ -72,10 +82,10 @@ best_step p routes i x b b' less e step =
       | inr failed ↦ rw (failed.0, failed.1) refl
     ])
 
--- what a built trie finds at an address is the best route that covers it
-pub built_finds : (home at : ℕ) (nodes : List FibNode) (routes : List Route) → Grown ways links (λ n. n.best) prefix_of value_of home [] nodes at 33 routes
+-- what a walk over a built trie finds at an address is the best route that covers it
+pub walk_finds : (home at : ℕ) (nodes : List FibNode) (routes : List Route) → Grown ways links (λ n. n.best) prefix_of value_of home [] nodes at 33 routes
     → (a : Addr) → found nodes a ≡ route_of routes a
-built_finds home at nodes routes g a = ap (option_map (λ w. w.number)) (
+walk_finds home at nodes routes g a = ap (option_map (λ w. w.number)) (
     root_finds ways links (λ n. n.best) prefix_of value_of home nodes at routes g a.0
     ∙ sym (sum_filter ways way_laws (λ r. covers_number (prefix_of r) a.0) value_of routes)
     ∙ sym (best_is_sum (filter (λ r. covers_number (prefix_of r) a.0) routes)))

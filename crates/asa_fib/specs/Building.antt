@@ -1,13 +1,13 @@
 -- How the nodes grow while routes are compiled.
-use Rattle.std.specs.Prelude.{ℕ, List}
+use Rattle.std.specs.Prelude.{◌≡◌, ℕ, List, Option, Some}
+use Rattle.asa_text.specs.declared.numbering.Addr.{Addr}
 use Rattle.asa_base.specs.Networks.{Network}
 use Rattle.asa_trie.specs.Bits.{home_of}
 use Rattle.asa_trie.specs.Tries.{Grown}
 use Rattle.asa_fib.specs.declared.choosing.Way.{Way}
 use Rattle.asa_fib.specs.declared.holding.FibNode.{FibNode}
-use Rattle.asa_fib.specs.Routes.{Route, way_of}
-use Rattle.asa_fib.specs.Finding.{ways, links}
-use Rattle.std.specs.Prelude.{Option, Some}
+use Rattle.asa_fib.specs.Routes.{Route, way_of, better, best_covering}
+use Rattle.asa_fib.specs.Finding.{ways, links, kept}
 
 -- the prefix of a route
 abbrev pub prefix_of : Route → Network
@@ -17,6 +17,7 @@ prefix_of r = r.0
 abbrev pub value_of : Route → Option Way
 value_of r = Some (way_of r)
 
--- the nodes have grown by those of the routes of one block
-abbrev pub FibGrown : List FibNode → List FibNode → ℕ → ℕ → List Route → Type 0
-FibGrown old new at levels routes = Grown ways links (λ n. n.best) prefix_of value_of (home_of prefix_of routes) old new at levels routes
+-- the nodes have grown by those of the routes of one block, and keep as good a route to each address as these and the old ones are
+pub record FibGrown (old new : List FibNode) (at levels : ℕ) (routes : List Route) : Type 0 where
+  pub nodes : Grown ways links (λ n. n.best) prefix_of value_of (home_of prefix_of routes) old new at levels routes
+  pub best : (a : Addr) → best_covering (kept new) a ≡ better (best_covering (kept old) a) (best_covering routes a)

@@ -28,6 +28,10 @@ abbrev pub best_of : List Route → Option Way
 best_of [] = None
 best_of (r ∷ rs) = better (Some (way_of r)) (best_of rs)
 
+-- the best of the routes whose prefix covers the address
+abbrev pub best_covering : List Route → Addr → Option Way
+best_covering routes a = best_of (filter (λ r. covers r.0 a) routes)
+
 -- the number of the best route among those whose prefix covers the address
 abbrev pub route_of : List Route → Addr → Option ℕ
-route_of routes a = option_map (λ w. w.number) (best_of (filter (λ r. covers r.0 a) routes))
+route_of routes a = option_map (λ w. w.number) (best_covering routes a)

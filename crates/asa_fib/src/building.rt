@@ -2,6 +2,7 @@
 //! follows theirs. A block whose routes all lie in one half gets no node of its own.
 ghost use Rattle.std.specs.Prelude.{◌≡◌, ℕ, ◌+◌, ◌-◌, ◌*◌, ◌^◌, ◌<◌, ◌≤◌, ◌++◌, ◌∷◌, [], length, filter, IfOk, Some};
 ghost use Rattle.std.specs.List.{All, list_all};
+ghost use Rattle.std.specs.Option.{IfSome};
 ghost use Rattle.asa_trie.specs.Bits.{home_of, IsWithin, is_here, is_low, is_high, one_half};
 ghost use Rattle.asa_fib.specs.Routes as spec;
 ghost use Rattle.asa_fib.specs.Building.{prefix_of, FibGrown};
@@ -85,7 +86,8 @@ fn highs(alloc: Global, routes: &[Route], level: u8) -> Result<Vec<Route>, Alloc
 /// The best of the routes whose prefix is a whole block of this level.
 #[tactic(auto, using(crate::proofs::WayLaws::better_assoc))]
 fn best_here(routes: &[Route], level: u8) -> Option<Way>
-    ensures { result ≡ spec.best_of (filter (λ r. is_here level (prefix_of r)) routes.now) }
+    ensures best { result ≡ spec.best_of (filter (λ r. is_here level (prefix_of r)) routes.now) }
+    ensures len { IfSome result (λ w. w.len + level ≡ 32) }
 {
     let mut best = None;
     for route in routes {

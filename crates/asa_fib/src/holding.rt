@@ -26,8 +26,8 @@ pub struct FibNode {
     pub right: u32,
 }
 
-/// Routes compiled for look-ups. Contracts see the nodes, of which the last is the root; `found` says what a look-up
-/// finds in them.
+/// Routes compiled for look-ups. Contracts see the routes that it keeps: one for each node that has a best way. The last
+/// node is the root.
 #[derive(Debug, Drop)]
 pub struct Fib {
     nodes: Vec<Sealed<FibNode>>,
@@ -35,15 +35,14 @@ pub struct Fib {
 
 impl Model for Fib {
     ghost use Rattle.std.specs.Prelude.{List};
-    ghost use Rattle.asa_fib.specs.declared.holding.FibNode.{FibNode};
-    ghost use Rattle.asa_trie.specs.Tries.{IsTrie};
-    ghost use Rattle.asa_fib.specs.Finding.{links};
+    ghost use Rattle.asa_fib.specs.Routes.{Route};
+    ghost use Rattle.asa_fib.specs.Finding.{kept, IsFib};
 
-    ghost Value = { List FibNode };
+    ghost Value = { List Route };
 
-    ghost view = { λ f. f.nodes.items };
+    ghost view = { λ f. kept f.nodes.items };
 
-    ghost invariant = { λ f. IsTrie links f.nodes.items };
+    ghost invariant = { λ f. IsFib f.nodes.items };
 }
 
 /// The link to the half of the node's block that has the address.
@@ -110,10 +109,10 @@ fn number_of(way: Option<Way>) -> Option<u32>
 }
 
 impl Fib {
-    /// Compiles routes. What a look-up then finds is the number of the best route that covers the address.
+    /// Compiles routes. What is kept leads to each address as the routes do.
     pub fn build(alloc: Global, routes: &[Route]) -> Result<Fib, AllocError>
         requires { length routes.now ≤ 262144 }
-        ensures { IfOk result (λ fib. (a : Addr) → spec.found fib a ≡ route_of routes.now a) }
+        ensures { IfOk result (λ fib. (a : Addr) → route_of fib a ≡ route_of routes.now a) }
     {
         let routes = copied(alloc, routes)?;
         let mut nodes = Vec::new(alloc);
@@ -124,7 +123,7 @@ impl Fib {
     /// The number of the best route whose prefix covers the address: the longest prefix, then the smallest distance, then
     /// the smallest number; None exactly where no prefix covers it. It takes no memory.
     pub fn lookup(&self, a: Addr, c: &mut Counter) -> Option<u32>
-        ensures value { result ≡ spec.found self.now a }
+        ensures value { result ≡ route_of self.now a }
         ensures reads { c.new ≤ c.old + 33 }
     {
         number_of(best_to(self.nodes.as_slice(), a, c))

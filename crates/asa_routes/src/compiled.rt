@@ -20,7 +20,6 @@ pub struct Routes {
 impl Model for Routes {
     ghost use Rattle.std.specs.Prelude.{List, ◌≡◌};
     ghost use Rattle.asa_text.specs.declared.numbering.Addr.{Addr};
-    ghost use Rattle.asa_fib.specs.Finding.{found};
     ghost use Rattle.asa_fib.specs.Routes.{route_of};
     ghost use Rattle.asa_routes.specs.Routing.{offers_from};
     ghost use Rattle.asa_routes.specs.declared.offering.Candidate.{Candidate};
@@ -29,7 +28,7 @@ impl Model for Routes {
 
     ghost view = { λ r. r.ways.items };
 
-    ghost invariant = { λ r. (a : Addr) → found r.fib a ≡ route_of (offers_from 0 r.ways.items) a };
+    ghost invariant = { λ r. (a : Addr) → route_of r.fib a ≡ route_of (offers_from 0 r.ways.items) a };
 }
 
 impl Routes {

@@ -1,19 +1,26 @@
 use Rattle.std.proofs.Common.{rules, ◌≡◌, ◌-◌, ◌^◌, ◌/◌, ◌<◌, true, false, length, filter, sym, ap, ◌∙◌, arith, subst, refl}
 use Rattle.std.specs.List.{All}
+use Rattle.std.specs.Option.{IfSome}
 use Rattle.asa_trie.specs.Bits.{home_of, IsWithin, is_here, is_low, is_high, one_half}
+use Rattle.asa_fib.specs.declared.holding.FibNode.{FibNode}
 use Rattle.asa_fib.specs.Routes.{best_of}
 use Rattle.asa_fib.specs.Finding.{ways, links}
 use Rattle.asa_fib.specs.Building.{prefix_of, value_of, FibGrown}
 use Rattle.asa_trie.proofs.BlockLaws.{half_passed, lows_within, highs_within, parts_length, some_level}
 use Rattle.asa_trie.proofs.TrieLaws.{grown_none, grown_passed, grown_node}
 use Rattle.std.proofs.lemmas.Result.{IfOk-weaker}
+use Rattle.std.proofs.lemmas.Option.{IfSome_then}
 use Rattle.asa_fib.proofs.WayLaws.{way_laws, best_is_sum}
+use Rattle.asa_fib.proofs.KeptLaws.{best_none, best_node}
 use Rattle.asa_fib.proofs.building.+grow.Goals as goal
 
 pub returns-then-is_empty : goal.returns-then-is_empty
 returns-then-is_empty t c =
     let none : length c.args.routes.items ≡ 0 = search rules in
-    grown_none ways links (λ n. n.best) prefix_of value_of (home_of prefix_of c.args.routes.items) c.args.nodes.now.items c.args.levels c.args.routes.items none
+    record {
+      nodes = grown_none ways links (λ n. n.best) prefix_of value_of (home_of prefix_of c.args.routes.items) c.args.nodes.now.items c.args.levels c.args.routes.items none;
+      best = best_none c.args.nodes.now.items c.args.routes.items none;
+    }
 
 pub overflow_sub-level : goal.overflow_sub-level
 overflow_sub-level t c =
@@ -34,7 +41,10 @@ returns-then-one_half t c =
     let e = some_level prefix_of c.args.levels c.args.routes.items some c.requires.within in
     IfOk-weaker c.grow.result (λ at. FibGrown c.args.nodes.now.items c.grow.new.nodes.items at (c.args.levels - 1) c.args.routes.items)
     (λ at. FibGrown c.args.nodes.now.items c.grow.new.nodes.items at c.args.levels c.args.routes.items)
-    (λ at g. grown_passed ways links (λ n. n.best) prefix_of value_of (home_of prefix_of c.args.routes.items) c.args.nodes.now.items c.grow.new.nodes.items at c.args.levels (c.args.levels - 1) c.args.routes.items e g)
+    (λ at g. record {
+      nodes = grown_passed ways links (λ n. n.best) prefix_of value_of (home_of prefix_of c.args.routes.items) c.args.nodes.now.items c.grow.new.nodes.items at c.args.levels (c.args.levels - 1) c.args.routes.items e g.nodes;
+      best = g.best;
+    })
     c.grow.ensures
 
 pub grow-requires-2 : goal.grow-requires-2
@@ -69,7 +79,7 @@ grow-requires-3 t c =
         omega arith,
         (
           subst (λ ys. All (λ r. IsWithin (c.args.levels - 1) (home_of prefix_of ys) (prefix_of r)) ys) (sym eh) (highs_within prefix_of c.args.levels (c.args.levels - 1) c.args.routes.items e c.requires.within),
-          omega (arith, few, ap length el, ap length eh, left.few),
+          omega (arith, few, ap length el, ap length eh, left.nodes.few),
         ),
       ),
     )
@@ -84,7 +94,7 @@ add-requires t c =
     let few = parts_length prefix_of (c.args.levels - 1) c.args.routes.items in
     let left : FibGrown c.args.nodes.now.items c.grow-2.new.nodes.items c.in_ok-left.left (c.args.levels - 1) c.in_ok-low.low.items = c.in_ok-left.ensures in
     let right : FibGrown c.grow-2.new.nodes.items c.grow-3.new.nodes.items c.in_ok-right.right (c.args.levels - 1) c.in_ok-high.high.items = c.in_ok-right.ensures in
-    omega (arith, few, ap length el, ap length eh, left.few, right.few)
+    omega (arith, few, ap length el, ap length eh, left.nodes.few, right.nodes.few)
 
 pub returns : goal.returns
 returns t c =
@@ -98,13 +108,25 @@ returns t c =
     c.in_ok-high.ensures ∙ ap (filter (λ r. is_high (c.args.levels - 1) (prefix_of r))) c.deref-5.ensures.value in
     let ehome : c.home.result.0 ≡ home_of prefix_of c.args.routes.items = c.home.ensures ∙ ap (home_of prefix_of) c.deref-2.ensures.value in
     let ebest : c.best_here-best.result ≡ best_of (filter (λ r. is_here (c.args.levels - 1) (prefix_of r)) c.args.routes.items) =
-    c.best_here-best.ensures ∙ ap (λ ys. best_of (filter (λ r. is_here (c.args.levels - 1) (prefix_of r)) ys)) c.deref-3.ensures.value in
-    grown_node ways way_laws links (λ n. n.best) prefix_of value_of c.args.levels (c.args.levels - 1) c.args.routes.items
-    c.args.nodes.now.items c.grow-2.new.nodes.items c.grow-3.new.nodes.items c.add.new.nodes.items c.in_ok-left.left c.in_ok-right.right c.in_ok-at.at
-    (record { prefix = c.over-prefix.result; best = c.best_here-best.result; left = c.in_ok-left.left; right = c.in_ok-right.right })
-    e c.requires.within some mixed
-    (subst (λ ys. FibGrown c.args.nodes.now.items c.grow-2.new.nodes.items c.in_ok-left.left (c.args.levels - 1) ys) el c.in_ok-left.ensures)
-    (subst (λ ys. FibGrown c.grow-2.new.nodes.items c.grow-3.new.nodes.items c.in_ok-right.right (c.args.levels - 1) ys) eh c.in_ok-right.ensures)
-    c.in_ok-at.ensures.added c.in_ok-at.ensures.link
-    c.over-prefix.ensures.level (c.over-prefix.ensures.block ∙ ap (λ x. x / 2 ^ (c.args.levels - 1)) ehome) refl refl
-    (ebest ∙ best_is_sum (filter (λ r. is_here (c.args.levels - 1) (prefix_of r)) c.args.routes.items))
+    c.best_here-best.ensures.best ∙ ap (λ ys. best_of (filter (λ r. is_here (c.args.levels - 1) (prefix_of r)) ys)) c.deref-3.ensures.value in
+    let low : FibGrown c.args.nodes.now.items c.grow-2.new.nodes.items c.in_ok-left.left (c.args.levels - 1) (filter (λ r. is_low (c.args.levels - 1) (prefix_of r)) c.args.routes.items) =
+    subst (λ ys. FibGrown c.args.nodes.now.items c.grow-2.new.nodes.items c.in_ok-left.left (c.args.levels - 1) ys) el c.in_ok-left.ensures in
+    let high : FibGrown c.grow-2.new.nodes.items c.grow-3.new.nodes.items c.in_ok-right.right (c.args.levels - 1) (filter (λ r. is_high (c.args.levels - 1) (prefix_of r)) c.args.routes.items) =
+    subst (λ ys. FibGrown c.grow-2.new.nodes.items c.grow-3.new.nodes.items c.in_ok-right.right (c.args.levels - 1) ys) eh c.in_ok-right.ensures in
+    let node : FibNode = record { prefix = c.over-prefix.result; best = c.best_here-best.result; left = c.in_ok-left.left; right = c.in_ok-right.right } in
+    let block : c.over-prefix.result.addr.0 / 2 ^ (c.args.levels - 1) ≡ home_of prefix_of c.args.routes.items / 2 ^ (c.args.levels - 1) =
+    c.over-prefix.ensures.block ∙ ap (λ x. x / 2 ^ (c.args.levels - 1)) ehome in
+    let len : IfSome c.best_here-best.result (λ w. w.len ≡ c.over-prefix.result.len) =
+    IfSome_then c.best_here-best.result c.best_here-best.ensures.len (λ w sum. omega (arith, c.over-prefix.ensures.length)) in
+    record {
+      nodes =
+          grown_node ways way_laws links (λ n. n.best) prefix_of value_of c.args.levels (c.args.levels - 1) c.args.routes.items
+          c.args.nodes.now.items c.grow-2.new.nodes.items c.grow-3.new.nodes.items c.add.new.nodes.items c.in_ok-left.left c.in_ok-right.right c.in_ok-at.at node
+          e c.requires.within some mixed low.nodes high.nodes c.in_ok-at.ensures.added c.in_ok-at.ensures.link
+          c.over-prefix.ensures.level block refl refl
+          (ebest ∙ best_is_sum (filter (λ r. is_here (c.args.levels - 1) (prefix_of r)) c.args.routes.items));
+      best =
+          best_node c.args.levels (c.args.levels - 1) (home_of prefix_of c.args.routes.items) c.args.routes.items
+          c.args.nodes.now.items c.grow-2.new.nodes.items c.grow-3.new.nodes.items c.add.new.nodes.items node
+          e c.requires.within c.over-prefix.ensures.level block ebest len low.best high.best c.in_ok-at.ensures.added;
+    }

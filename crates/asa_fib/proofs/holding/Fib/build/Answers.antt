@@ -1,11 +1,10 @@
 use Rattle.std.proofs.Common.{[], length, ap, ◌∙◌, arith, subst}
-use Rattle.asa_trie.specs.Bits.{home_of}
 use Rattle.asa_fib.specs.Routes.{route_of}
 use Rattle.asa_fib.specs.Finding.{links}
 use Rattle.asa_fib.specs.Building.{prefix_of, FibGrown}
 use Rattle.asa_trie.proofs.BlockLaws.{whole_block}
 use Rattle.asa_trie.proofs.TrieLaws.{nested_none}
-use Rattle.asa_fib.proofs.WayLaws.{built_finds}
+use Rattle.asa_fib.proofs.KeptLaws.{built_finds, built_routes}
 use Rattle.asa_fib.proofs.holding.Fib.build.Goals as goal
 
 pub grow-requires : goal.grow-requires
@@ -19,10 +18,13 @@ pub invariant_of-result : goal.invariant_of-result
 invariant_of-result c =
     let g : FibGrown [] c.grow.new.nodes.items c.in_ok-_root._root 33 c.in_ok-routes.routes.items =
     subst (λ ns. FibGrown ns c.grow.new.nodes.items c.in_ok-_root._root 33 c.in_ok-routes.routes.items) c.new-nodes.ensures.items c.in_ok-_root.ensures in
-    record { few = omega (arith, g.few, ap length c.in_ok-routes.ensures.same, c.requires); nested = g.nested (nested_none links) }
+    record {
+      trie = record { few = omega (arith, g.nodes.few, ap length c.in_ok-routes.ensures.same, c.requires); nested = g.nodes.nested (nested_none links) };
+      finds = built_finds c.in_ok-_root._root c.grow.new.nodes.items c.in_ok-routes.routes.items g;
+    }
 
 pub returns : goal.returns
 returns c =
     let g : FibGrown [] c.grow.new.nodes.items c.in_ok-_root._root 33 c.in_ok-routes.routes.items =
     subst (λ ns. FibGrown ns c.grow.new.nodes.items c.in_ok-_root._root 33 c.in_ok-routes.routes.items) c.new-nodes.ensures.items c.in_ok-_root.ensures in
-    λ a. built_finds (home_of prefix_of c.in_ok-routes.routes.items) c.in_ok-_root._root c.grow.new.nodes.items c.in_ok-routes.routes.items g a ∙ ap (λ rs. route_of rs a) c.in_ok-routes.ensures.same
+    λ a. built_routes c.in_ok-_root._root c.grow.new.nodes.items c.in_ok-routes.routes.items g a ∙ ap (λ rs. route_of rs a) c.in_ok-routes.ensures.same
