@@ -1,5 +1,5 @@
 -- The better of two ways: no matter how they are grouped or ordered.
-use Rattle.std.proofs.Common.{◌≡◌, ℕ, ◌<◌, Bool, true, false, cond, ◌+◌, suc, ◌⊎◌, inl, inr, List, [], ◌∷◌, length, filter, get_or, drop, Option, Some, None, refl, sym, ap, ◌∙◌, arith, add-one, drop-cons}
+use Rattle.std.proofs.Common.{◌≡◌, ℕ, ◌<◌, Bool, true, false, cond, ◌+◌, suc, ◌⊎◌, inl, inr, List, [], ◌∷◌, All, length, filter, get_or, drop, Option, Some, None, refl, sym, ap, ◌∙◌, arith, add-one, drop-cons}
 use Rattle.std.proofs.lemmas.Bool.Decides.{nat_tests}
 use Rattle.std.specs.Option.{IfSome, option_map}
 use Rattle.asa_text.specs.declared.numbering.Addr.{Addr}
@@ -61,8 +61,8 @@ pub best_is_sum : (rs : List Route) → best_of rs ≡ sum_over ways value_of rs
 best_is_sum [] = refl
 best_is_sum (r ∷ rs) = ap (λ b. better (Some (way_of r)) b) (best_is_sum rs)
 
--- of two ways that have a property the better one has it
-pub better_keeps : (P : Way → Type 0) (a b : Option Way) → IfSome a P → IfSome b P → IfSome (better a b) P
+-- what holds of two ways holds of the better one
+better_keeps : (P : Way → Type 0) (a b : Option Way) → IfSome a P → IfSome b P → IfSome (better a b) P
 better_keeps P None b p q = q
 better_keeps P (Some a) None p q = p
 better_keeps P (Some a) (Some b) p q = chosen (beats b a)
@@ -70,6 +70,11 @@ better_keeps P (Some a) (Some b) p q = chosen (beats b a)
     chosen : (c : Bool) → P (cond c b a)
     chosen true = q
     chosen false = p
+
+-- and what holds of each route's way holds of the best
+pub best_keeps : (P : Way → Type 0) (rs : List Route) → All (λ r. P (way_of r)) rs → IfSome (best_of rs) P
+best_keeps P [] all = tt
+best_keeps P (r ∷ rs) all = better_keeps P (Some (way_of r)) (best_of rs) (all 0 r (omega arith)) (best_keeps P rs (λ k d less. all (suc k) d (omega arith)))
 
 -- one more route of a list is looked at
 pub best_step : (p : Route → Bool) (routes : List Route) (i : ℕ) (x : Route) (b b' : Option Way) → i < length routes → x ≡ get_or routes i x

@@ -1,22 +1,23 @@
 //! Compiles routes: the routes of a block of addresses are divided between its halves, and a node over both halves
 //! follows theirs. A block whose routes all lie in one half gets no node of its own.
-ghost use Rattle.std.specs.Prelude.{◌≡◌, ℕ, ◌+◌, ◌-◌, ◌*◌, ◌^◌, ◌<◌, ◌≤◌, ◌++◌, ◌∷◌, [], length, filter, IfOk, Some};
+ghost use Rattle.std.specs.Prelude.{◌≡◌, ℕ, ◌+◌, ◌-◌, ◌*◌, ◌/◌, ◌^◌, ◌<◌, ◌≤◌, ◌++◌, ◌∷◌, [], length, filter, IfOk, IsTrue, Some};
 ghost use Rattle.std.specs.List.{All, list_all};
-ghost use Rattle.std.specs.Option.{IfSome};
-ghost use Rattle.asa_trie.specs.Bits.{home_of, IsWithin, is_here, is_low, is_high, one_half};
+ghost use Rattle.asa_base.specs.Networks.{is_prefix};
+ghost use Rattle.asa_trie.specs.Bits.{height, home_of, IsWithin, is_here, is_low, is_high, one_half};
 ghost use Rattle.asa_fib.specs.Routes as spec;
-ghost use Rattle.asa_fib.specs.Building.{prefix_of, FibGrown};
+ghost use Rattle.asa_fib.specs.Building.{prefix_of, is_whole, FibGrown};
 
 use crate::choosing::{Route, Way, better, way_of};
 use crate::holding::FibNode;
-use asa_base::{Addr, Sealed};
+use asa_base::{Addr, Prefix, Sealed};
 use asa_trie::{is_here, is_high, is_low, over};
 use std::alloc::{AllocError, Global};
 
-/// A route, of whose prefix the address is known to be one of 32 bits.
+/// A route, whose prefix is known to be one.
 fn looked_at(route: &Route) -> Route
     ensures same { result ≡ route.now }
     ensures few { result.0.addr.0 < 2 ^ 32 }
+    ensures whole { IsTrue (is_whole result) }
 {
     let addr = route.0.addr.0;
     prove!(addr <= u32::MAX);
@@ -27,6 +28,7 @@ fn looked_at(route: &Route) -> Route
 pub(crate) fn copied(alloc: Global, routes: &[Route]) -> Result<Vec<Route>, AllocError>
     ensures same { IfOk result (λ v. v.items ≡ routes.now) }
     ensures few { IfOk result (λ v. All (λ r. (prefix_of r).addr.0 < 2 ^ 32) v.items) }
+    ensures whole { IfOk result (λ v. All (λ r. IsTrue (is_whole r)) v.items) }
 {
     let mut all = Vec::with_capacity(alloc, routes.len())?;
     for route in routes {
@@ -86,8 +88,7 @@ fn highs(alloc: Global, routes: &[Route], level: u8) -> Result<Vec<Route>, Alloc
 /// The best of the routes whose prefix is a whole block of this level.
 #[tactic(auto, using(crate::proofs::WayLaws::better_assoc))]
 fn best_here(routes: &[Route], level: u8) -> Option<Way>
-    ensures best { result ≡ spec.best_of (filter (λ r. is_here level (prefix_of r)) routes.now) }
-    ensures len { IfSome result (λ w. w.len + level ≡ 32) }
+    ensures { result ≡ spec.best_of (filter (λ r. is_here level (prefix_of r)) routes.now) }
 {
     let mut best = None;
     for route in routes {
@@ -108,6 +109,16 @@ fn home(routes: &[Route]) -> Addr
     }
 }
 
+/// The block of this level that has the address at which the first route's prefix begins.
+fn block(routes: &[Route], level: u8) -> Prefix
+    requires { level ≤ 32 }
+    ensures level { height result ≡ level }
+    ensures home { result.addr.0 / 2 ^ level ≡ home_of prefix_of routes.now / 2 ^ level }
+    ensures whole { IsTrue (is_prefix result.addr.0 result.len) }
+{
+    over(home(routes), level)
+}
+
 /// Pushes a node, and gives the link to it.
 fn add(nodes: &mut Vec<Sealed<FibNode>>, node: FibNode) -> Result<u32, AllocError>
     requires { length nodes.old.items + 1 < 2 ^ 32 }
@@ -126,6 +137,7 @@ pub(crate) fn grow(
     routes: Vec<Route>,
 ) -> Result<u32, AllocError>
     requires few { levels ≤ 33 }
+    requires whole { All (λ r. IsTrue (is_whole r)) routes.items }
     requires within { All (λ r. IsWithin levels (home_of prefix_of routes.items) (prefix_of r)) routes.items }
     requires room { length nodes.old.items + 2 * length routes.items < 2 ^ 32 }
     ensures { IfOk result (λ at. FibGrown nodes.old.items nodes.new.items at levels routes.items) }
@@ -137,7 +149,7 @@ pub(crate) fn grow(
     if one_half(&routes, level) {
         return grow(alloc, nodes, level, routes);
     }
-    let prefix = over(home(&routes), level);
+    let prefix = block(&routes, level);
     let best = best_here(&routes, level);
     let low = lows(alloc, &routes, level)?;
     let high = highs(alloc, &routes, level)?;

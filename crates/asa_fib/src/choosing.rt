@@ -1,5 +1,5 @@
 //! Which of two routes is better.
-ghost use Rattle.std.specs.Prelude.{◌≡◌, ◌≤◌, Some, None, List, filter};
+ghost use Rattle.std.specs.Prelude.{◌≡◌, Some, None, List, filter};
 ghost use Rattle.asa_fib.specs.Routes as spec;
 
 use asa_base::Prefix;
@@ -19,8 +19,7 @@ pub struct Way {
 
 /// What the route is chosen by.
 pub(crate) fn way_of(route: Route) -> Way
-    ensures value { result ≡ spec.way_of route }
-    ensures most { result.len ≤ 32 }
+    ensures { result ≡ spec.way_of route }
 {
     let (prefix, distance, number) = route;
     Way {

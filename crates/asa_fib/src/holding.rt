@@ -2,6 +2,7 @@
 ghost use Rattle.std.specs.Prelude.{◌≡◌, ℕ, ◌+◌, ◌≤◌, ◌<◌, ◌^◌, length, IfOk, Some, None};
 ghost use Rattle.asa_text.specs.declared.numbering.Addr.{Addr};
 ghost use Rattle.asa_fib.specs.Routes.{route_of};
+ghost use Rattle.std.specs.List.{All, Contains};
 ghost use Rattle.std.specs.Option.{option_copied, option_map};
 ghost use Rattle.asa_trie.specs.Tries.{node_at, child, covering, walk};
 ghost use Rattle.asa_fib.specs.Finding as spec;
@@ -109,10 +110,11 @@ fn number_of(way: Option<Way>) -> Option<u32>
 }
 
 impl Fib {
-    /// Compiles routes. What is kept leads to each address as the routes do.
+    /// Compiles routes. Those that are kept are of the given ones, and lead to each address as these do.
     pub fn build(alloc: Global, routes: &[Route]) -> Result<Fib, AllocError>
         requires { length routes.now ≤ 262144 }
-        ensures { IfOk result (λ fib. (a : Addr) → route_of fib a ≡ route_of routes.now a) }
+        ensures best { IfOk result (λ fib. (a : Addr) → route_of fib a ≡ route_of routes.now a) }
+        ensures given { IfOk result (λ fib. All (Contains routes.now) fib) }
     {
         let routes = copied(alloc, routes)?;
         let mut nodes = Vec::new(alloc);
