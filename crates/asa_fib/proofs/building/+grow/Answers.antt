@@ -61,10 +61,10 @@ grow-requires-2 t c =
         omega arith,
         (
           subst (λ ys. All (λ r. IsTrue (is_whole r)) ys) (sym el) (All-filter (λ r. is_low (c.args.levels - 1) (prefix_of r)) (λ r. IsTrue (is_whole r)) c.args.routes.items c.requires.whole),
-        (
-          subst (λ ys. All (λ r. IsWithin (c.args.levels - 1) (home_of prefix_of ys) (prefix_of r)) ys) (sym el) (lows_within prefix_of c.args.levels (c.args.levels - 1) c.args.routes.items e c.requires.within),
-          omega (arith, few, ap length el),
-        ),
+          (
+            subst (λ ys. All (λ r. IsWithin (c.args.levels - 1) (home_of prefix_of ys) (prefix_of r)) ys) (sym el) (lows_within prefix_of c.args.levels (c.args.levels - 1) c.args.routes.items e c.requires.within),
+            omega (arith, few, ap length el),
+          ),
         ),
       ),
     )
@@ -84,10 +84,10 @@ grow-requires-3 t c =
         omega arith,
         (
           subst (λ ys. All (λ r. IsTrue (is_whole r)) ys) (sym eh) (All-filter (λ r. is_high (c.args.levels - 1) (prefix_of r)) (λ r. IsTrue (is_whole r)) c.args.routes.items c.requires.whole),
-        (
-          subst (λ ys. All (λ r. IsWithin (c.args.levels - 1) (home_of prefix_of ys) (prefix_of r)) ys) (sym eh) (highs_within prefix_of c.args.levels (c.args.levels - 1) c.args.routes.items e c.requires.within),
-          omega (arith, few, ap length el, ap length eh, left.nodes.few),
-        ),
+          (
+            subst (λ ys. All (λ r. IsWithin (c.args.levels - 1) (home_of prefix_of ys) (prefix_of r)) ys) (sym eh) (highs_within prefix_of c.args.levels (c.args.levels - 1) c.args.routes.items e c.requires.within),
+            omega (arith, few, ap length el, ap length eh, left.nodes.few),
+          ),
         ),
       ),
     )
