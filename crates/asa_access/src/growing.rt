@@ -1,8 +1,6 @@
 //! Compiling one list.
-ghost use Rattle.std.specs.Prelude.{◌≡◌, ◌+◌, ◌≤◌, IfOk, length, map, count_by, option_and_then, slice_get};
+ghost use Rattle.std.specs.Prelude.{◌≡◌, ◌+◌, ◌≤◌, IfOk, map};
 ghost use Rattle.asa_base.specs.declared.flowing.Packet.{Packet as AnyPacket};
-ghost use Rattle.asa_pair_trie.specs.Pairs.{covers_both, first_of};
-ghost use Rattle.asa_entries.specs.Matching.{Placed};
 ghost use Rattle.asa_access.specs.Compiled.{match_in, covering_among};
 ghost use Rattle.asa_access.specs.Lists.{covering_in, match_of};
 
