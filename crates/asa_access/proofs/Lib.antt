@@ -1,2 +1,2 @@
 pub mod RankLaws
-pub mod TreeLaws
+pub mod ListLaws

@@ -1,10 +1,12 @@
 -- The least rank of the entries that hold a packet is the place of the first of them, where each rank is a place.
-use Rattle.std.proofs.Common.{◌≡◌, ℕ, zero, suc, ◌+◌, ◌≤◌, min, Bool, true, false, if◌then◌else◌, List, [], ◌∷◌, map, filter, length, slice_get, Option, Some, None, option_and_then, refl, sym, ap, ◌∙◌, arith}
+use Rattle.std.proofs.Common.{◌≡◌, ℕ, suc, ◌+◌, ◌≤◌, min, Bool, true, false, if◌then◌else◌, List, [], ◌∷◌, map, filter, length, slice_get, Some, option_and_then, refl, ap, ◌∙◌, arith}
 use Rattle.std.specs.List.{find}
+use Rattle.std.specs.List.Sorted.{IsPermutation}
 use Rattle.std.specs.Option.{option_map}
 use Rattle.asa_base.specs.declared.flowing.Packet.{Packet}
 use Rattle.asa_pair_trie.specs.declared.entries.Entry.{Entry}
 use Rattle.asa_pair_trie.specs.Pairs.{holds, lesser, least_rank, first_of, covers_both}
+use Rattle.asa_pair_trie.proofs.RankLaws.{first_permutation, covering_permutation}
 use Rattle.asa_entries.specs.Matching.{Placed, first_match, IsRanked}
 
 abbrev bare : Placed → Entry
@@ -60,14 +62,14 @@ least_is_match p n (e ∷ es) lines ranked same = by (holds p e.0) (least_is_mat
         ∙ ap (λ r. option_and_then (slice_get lines) r) (keeps_least p n (suc n) es (omega arith) (tail_ranked n e es ranked)) ∙ here
     by false rest = rest
 
-pub first_is_match : (es : List Placed) (p : Packet) → IsRanked es
+first_is_match : (es : List Placed) (p : Packet) → IsRanked es
     → option_and_then (slice_get (map (λ e. (e.1, e.2)) es)) (first_of (map (λ e. e.0) es) p) ≡ first_match es p
 first_is_match es p ranked =
     least_is_match p 0 es (map line_of es) (λ i e h. let r = ranked i e h in omega (arith, r))
     (λ i. let k : 0 + i ≡ i = omega arith in ap (slice_get (map line_of es)) k)
 
 -- entries without their lines cover a packet as they do with them
-pub covering_bare : (es : List Placed) (p : Packet) → length (filter (covers_both p) (map (λ e. e.0) es)) ≡ length (filter (λ e. covers_both p e.0) es)
+covering_bare : (es : List Placed) (p : Packet) → length (filter (covers_both p) (map (λ e. e.0) es)) ≡ length (filter (λ e. covers_both p e.0) es)
 covering_bare [] p = refl
 covering_bare (e ∷ es) p = by (covers_both p e.0) (covering_bare es p)
   where
@@ -76,3 +78,12 @@ covering_bare (e ∷ es) p = by (covers_both p e.0) (covering_bare es p)
         ≡ length (if h then e ∷ filter (λ (x : Placed). covers_both p x.0) es else filter (λ (x : Placed). covers_both p x.0) es)
     by true rest = ap suc rest
     by false rest = rest
+
+-- the same of the entries in another order
+pub match_held : (es : List Placed) (held : List Entry) (p : Packet) → IsRanked es → IsPermutation (map (λ e. e.0) es) held
+    → option_and_then (slice_get (map (λ e. (e.1, e.2)) es)) (first_of held p) ≡ first_match es p
+match_held es held p ranked same = ap (option_and_then (slice_get (map line_of es))) (first_permutation (map bare es) held same p) ∙ first_is_match es p ranked
+
+pub covering_held : (es : List Placed) (held : List Entry) (p : Packet) → IsPermutation (map (λ e. e.0) es) held
+    → length (filter (covers_both p) held) ≡ length (filter (λ e. covers_both p e.0) es)
+covering_held es held p same = covering_permutation (map bare es) held same p ∙ covering_bare es p

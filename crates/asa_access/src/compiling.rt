@@ -2,7 +2,7 @@
 ghost use Rattle.std.specs.Prelude.{◌≡◌, ℕ, ◌+◌, ◌≤◌, ◌<◌, [], ◌∷◌, ◌++◌, IfOk, OnOk, IfSome, length, map, slice_index, ◌^◌};
 ghost use Rattle.std.specs.Option.{option_copied, option_map};
 ghost use Rattle.asa_base.specs.declared.flowing.Packet.{Packet as AnyPacket};
-ghost use Rattle.asa_access.specs.Compiled as found;
+ghost use Rattle.asa_access.specs.Compiled as compiled;
 ghost use Rattle.asa_access.specs.Lists as spec;
 
 use crate::growing::Compiled;
@@ -13,11 +13,11 @@ use asa_base::{Counter, Packet};
 use std::alloc::{AllocError, Global};
 use std::marker::Model;
 
-/// Access lists and levels, compiled for verdicts. Contracts see the compiled lists; `build` says that they mean what the
-/// lists mean that they were compiled from.
+/// Access lists and levels, compiled for verdicts. Contracts see the compiled lists with their entries; `build` says that they
+/// mean what the lists mean that they were compiled from.
 #[derive(Debug, Drop)]
 pub struct Access {
-    trees: Vec<Compiled>,
+    lists: Vec<Compiled>,
     inputs: Vec<Option<u32>>,
     egresses: Vec<Option<u32>>,
     global: Option<u32>,
@@ -25,12 +25,12 @@ pub struct Access {
 }
 
 impl Model for Access {
-    ghost use Rattle.asa_access.specs.Compiled.{Trees};
+    ghost use Rattle.asa_access.specs.Compiled.{CompiledLists};
 
-    ghost Value = { Trees };
+    ghost Value = { CompiledLists };
 
     ghost view = { λ a. record {
-      trees = a.trees.items;
+      lists = a.lists.items;
       inputs = a.inputs.items;
       egresses = a.egresses.items;
       global = a.global;
@@ -39,24 +39,28 @@ impl Model for Access {
 }
 
 /// Compiles one more list.
-fn push_tree(alloc: Global, trees: &mut Vec<Compiled>, list: &AccessList) -> Result<(), AllocError>
-    ensures first { OnOk result ((p : AnyPacket) → map (found.found_in p) trees.new.items ≡ map (found.found_in p) trees.old.items ++ spec.match_of p list.now ∷ []) }
-    ensures reads { OnOk result ((p : AnyPacket) → map (found.read_in p) trees.new.items ≡ map (found.read_in p) trees.old.items ++ spec.covering_in p list.now ∷ []) }
+fn push_compiled(
+    alloc: Global,
+    done: &mut Vec<Compiled>,
+    list: &AccessList,
+) -> Result<(), AllocError>
+    ensures first { OnOk result ((p : AnyPacket) → map (compiled.match_in p) done.new.items ≡ map (compiled.match_in p) done.old.items ++ spec.match_of p list.now ∷ []) }
+    ensures covering { OnOk result ((p : AnyPacket) → map (compiled.covering_among p) done.new.items ≡ map (compiled.covering_among p) done.old.items ++ spec.covering_in p list.now ∷ []) }
 {
-    trees.push(Compiled::build(alloc, list)?)?;
+    done.push(Compiled::build(alloc, list)?)?;
     Ok(())
 }
 
 /// Compiles each list.
-fn trees_of(alloc: Global, lists: &[AccessList]) -> Result<Vec<Compiled>, AllocError>
-    ensures first { IfOk result (λ v. (p : AnyPacket) → map (found.found_in p) v.items ≡ map (spec.match_of p) lists.now) }
-    ensures reads { IfOk result (λ v. (p : AnyPacket) → map (found.read_in p) v.items ≡ map (spec.covering_in p) lists.now) }
+fn compiled_of(alloc: Global, lists: &[AccessList]) -> Result<Vec<Compiled>, AllocError>
+    ensures first { IfOk result (λ v. (p : AnyPacket) → map (compiled.match_in p) v.items ≡ map (spec.match_of p) lists.now) }
+    ensures covering { IfOk result (λ v. (p : AnyPacket) → map (compiled.covering_among p) v.items ≡ map (spec.covering_in p) lists.now) }
 {
-    let mut trees = Vec::with_capacity(alloc, lists.len())?;
+    let mut done = Vec::with_capacity(alloc, lists.len())?;
     for list in lists {
-        push_tree(alloc, &mut trees, list)?;
+        push_compiled(alloc, &mut done, list)?;
     }
-    Ok(trees)
+    Ok(done)
 }
 
 /// The place of the list at one side of each interface, by the interface's number.
@@ -66,7 +70,7 @@ fn places_of(
     inbound: bool,
 ) -> Result<Vec<Option<u32>>, AllocError>
     requires { length lists.now < 2 ^ 32 }
-    ensures { IfOk result (λ v. found.IsTable lists.now inbound v.items) }
+    ensures { IfOk result (λ v. compiled.IsTable lists.now inbound v.items) }
 {
     let mut places = Vec::with_capacity(alloc, 256)?;
     for ifc in 0..256u16 {
@@ -78,7 +82,7 @@ fn places_of(
 impl Access {
     /// Compiles lists; `global` is the place, from 0, of the list that is bound to every input, and `levels` has the level of
     /// each interface, 0 for one without a name.
-    #[tactic(auto, using(crate::proofs::TreeLaws::inbound_is, crate::proofs::TreeLaws::outbound_is, crate::proofs::TreeLaws::inbound_reads, crate::proofs::TreeLaws::outbound_reads))]
+    #[tactic(auto, using(crate::proofs::ListLaws::inbound_is, crate::proofs::ListLaws::outbound_is, crate::proofs::ListLaws::inbound_reads, crate::proofs::ListLaws::outbound_reads))]
     pub fn build(
         alloc: Global,
         lists: &[AccessList],
@@ -87,17 +91,17 @@ impl Access {
     ) -> Result<Access, AllocError>
         requires { length lists.now < 2 ^ 32 }
         ensures inbound { IfOk result (λ a. (p : AnyPacket) (egress : ℕ) → p.ifc < 256
-            → found.found_inbound a p egress ≡ spec.inbound lists.now global levels.items p egress) }
+            → compiled.inbound_in a p egress ≡ spec.inbound lists.now global levels.items p egress) }
         ensures outbound { IfOk result (λ a. (p : AnyPacket) (egress : ℕ) → egress < 256
-            → found.found_outbound a p egress ≡ spec.outbound lists.now p egress) }
-        ensures inbound_reads { IfOk result (λ a. (p : AnyPacket) → p.ifc < 256 → found.read_inbound a p ≡ spec.inbound_covering lists.now global p) }
-        ensures outbound_reads { IfOk result (λ a. (p : AnyPacket) (egress : ℕ) → egress < 256 → found.read_outbound a p egress ≡ spec.outbound_covering lists.now p egress) }
+            → compiled.outbound_in a p egress ≡ spec.outbound lists.now p egress) }
+        ensures inbound_reads { IfOk result (λ a. (p : AnyPacket) → p.ifc < 256 → compiled.covering_inbound a p ≡ spec.inbound_covering lists.now global p) }
+        ensures outbound_reads { IfOk result (λ a. (p : AnyPacket) (egress : ℕ) → egress < 256 → compiled.covering_outbound a p egress ≡ spec.outbound_covering lists.now p egress) }
     {
-        let trees = trees_of(alloc, lists)?;
+        let compiled = compiled_of(alloc, lists)?;
         let inputs = places_of(alloc, lists, true)?;
         let egresses = places_of(alloc, lists, false)?;
         Ok(Access {
-            trees,
+            lists: compiled,
             inputs,
             egresses,
             global,
@@ -106,24 +110,24 @@ impl Access {
     }
 
     /// The compiled list at a place.
-    fn tree_at(&self, place: Option<u32>) -> Option<&Compiled>
-        ensures { option_copied result ≡ found.tree_at self.now place }
+    fn list_at(&self, place: Option<u32>) -> Option<&Compiled>
+        ensures { option_copied result ≡ compiled.list_in self.now place }
     {
         match place {
-            Some(place) => self.trees.get(place as usize),
+            Some(place) => self.lists.get(place as usize),
             None => None,
         }
     }
 
     /// The list at a place, where there is one, with the line that decides the packet.
     fn matched(&self, place: Option<u32>, p: &Packet, c: &mut Counter) -> Option<Bound<'_>>
-        ensures value { result ≡ option_map (found.found_in p.now) (found.tree_at self.now place) }
-        ensures reads { c.new ≤ c.old + 1122 + found.read_if p.now (found.tree_at self.now place) }
+        ensures value { result ≡ option_map (compiled.match_in p.now) (compiled.list_in self.now place) }
+        ensures reads { c.new ≤ c.old + 1122 + compiled.covering_if p.now (compiled.list_in self.now place) }
     {
-        match self.tree_at(place) {
-            Some(tree) => Some(Bound {
-                name: tree.name(),
-                first: tree.first(p, c),
+        match self.list_at(place) {
+            Some(list) => Some(Bound {
+                name: list.name(),
+                first: list.first(p, c),
             }),
             None => None,
         }
@@ -138,10 +142,10 @@ impl Access {
 
     /// The verdict at the input of a packet, which has its real destination, towards an egress: by the first line of the
     /// input's own list that holds it, then of the global list, then by the levels where there is neither.
-    #[tactic(auto, unfolding(crate::specs::Compiled::found_inbound, crate::specs::Compiled::read_inbound))]
+    #[tactic(auto, unfolding(crate::specs::Compiled::inbound_in, crate::specs::Compiled::covering_inbound))]
     pub fn inbound(&self, p: &Packet, egress: u8, c: &mut Counter) -> AccessVerdict
-        ensures value { result ≡ found.found_inbound self.now p.now egress }
-        ensures reads { c.new ≤ c.old + 2244 + found.read_inbound self.now p.now }
+        ensures value { result ≡ compiled.inbound_in self.now p.now egress }
+        ensures reads { c.new ≤ c.old + 2244 + compiled.covering_inbound self.now p.now }
     {
         let own = self.matched(place_in(self.inputs.as_slice(), p.ifc), p, c);
         if let Some(
@@ -159,10 +163,10 @@ impl Access {
 
     /// The verdict at the egress of a packet, which has its real destination: by the first line of the egress's list that
     /// holds it.
-    #[tactic(auto, unfolding(crate::specs::Compiled::found_outbound, crate::specs::Compiled::read_outbound))]
+    #[tactic(auto, unfolding(crate::specs::Compiled::outbound_in, crate::specs::Compiled::covering_outbound))]
     pub fn outbound(&self, p: &Packet, egress: u8, c: &mut Counter) -> AccessVerdict
-        ensures value { result ≡ found.found_outbound self.now p.now egress }
-        ensures reads { c.new ≤ c.old + 1122 + found.read_outbound self.now p.now egress }
+        ensures value { result ≡ compiled.outbound_in self.now p.now egress }
+        ensures reads { c.new ≤ c.old + 1122 + compiled.covering_outbound self.now p.now egress }
     {
         let place = place_in(self.egresses.as_slice(), egress);
         outbound_by(self.matched(place, p, c))
@@ -181,7 +185,7 @@ fn level_at(levels: &[u8], ifc: u8) -> u8
 
 /// The place that a table has for an interface.
 fn place_in(places: &[Option<u32>], ifc: u8) -> Option<u32>
-    ensures { result ≡ found.place_in places.now ifc }
+    ensures { result ≡ compiled.place_in places.now ifc }
 {
     match places.get(usize::from(ifc)) {
         Some(place) => *place,

@@ -1,10 +1,7 @@
 //! Compiling one list.
-ghost use Rattle.std.specs.Prelude.{◌≡◌, ◌+◌, ◌≤◌, IfOk, length, map, count_by, option_and_then, slice_get};
+ghost use Rattle.std.specs.Prelude.{◌≡◌, ◌+◌, ◌≤◌, IfOk, map};
 ghost use Rattle.asa_base.specs.declared.flowing.Packet.{Packet as AnyPacket};
-ghost use Rattle.asa_pair_trie.specs.Finding.{found};
-ghost use Rattle.asa_pair_trie.specs.Pairs.{covers_both, first_of};
-ghost use Rattle.asa_entries.specs.Matching.{Placed};
-ghost use Rattle.asa_access.specs.Compiled.{found_in, read_in};
+ghost use Rattle.asa_access.specs.Compiled.{match_in, covering_among};
 ghost use Rattle.asa_access.specs.Lists.{covering_in, match_of};
 
 use crate::listing::AccessList;
@@ -23,11 +20,11 @@ pub(crate) struct Compiled {
 }
 
 impl Model for Compiled {
-    ghost use Rattle.asa_access.specs.Compiled.{Tree};
+    ghost use Rattle.asa_access.specs.Compiled.{CompiledList};
 
-    ghost Value = { Tree };
+    ghost Value = { CompiledList };
 
-    ghost view = { λ c. record { name = c.name; pairs = c.pairs; lines = c.lines.items } };
+    ghost view = { λ c. record { name = c.name; entries = c.pairs; lines = c.lines.items } };
 }
 
 /// The entries without their lines.
@@ -46,10 +43,9 @@ fn lines_of(alloc: Global, entries: &[(Entry, u32, bool)]) -> Result<Vec<(u32, b
 
 impl Compiled {
     /// Compiles a list.
-    #[tactic(auto, using(crate::proofs::RankLaws::first_is_match, crate::proofs::RankLaws::covering_bare))]
     pub(crate) fn build(alloc: Global, list: &AccessList) -> Result<Compiled, AllocError>
-        ensures first { IfOk result (λ t. (p : AnyPacket) → found_in p t ≡ match_of p list.now) }
-        ensures reads { IfOk result (λ t. (p : AnyPacket) → read_in p t ≡ covering_in p list.now) }
+        ensures first { IfOk result (λ t. (p : AnyPacket) → match_in p t ≡ match_of p list.now) }
+        ensures covering { IfOk result (λ t. (p : AnyPacket) → covering_among p t ≡ covering_in p list.now) }
     {
         let entries = list.entries.as_slice();
         let pairs = PairTrie::build(alloc, bare(alloc, entries)?.as_slice())?;
@@ -70,8 +66,8 @@ impl Compiled {
 
     /// The first line that holds the packet, and whether it permits.
     pub(crate) fn first(&self, p: &Packet, c: &mut Counter) -> Option<(u32, bool)>
-        ensures value { result ≡ (found_in p.now self.now).first }
-        ensures reads { c.new ≤ c.old + 1122 + read_in p.now self.now }
+        ensures value { result ≡ (match_in p.now self.now).first }
+        ensures reads { c.new ≤ c.old + 1122 + covering_among p.now self.now }
     {
         let rank = self.pairs.first(p, c)?;
         match self.lines.get(rank as usize) {

@@ -50,15 +50,6 @@ impl Ranked {
         self.entries.as_slice()
     }
 
-    /// The entries as a list.
-    pub fn into_items(self) -> Items<(Entry, u32, bool)>
-        ensures value { result ≡ self }
-        ensures ranked { spec.IsRanked result }
-        ensures few { length result ≤ 262144 }
-    {
-        self.entries
-    }
-
     /// Appends the entry of a box for one prefix of its source and one of its destination.
     #[tactic(auto, using(crate::proofs::MatchLaws::match_push, crate::proofs::MatchLaws::covering_push))]
     fn push(&mut self, b: &LineBox, source: Prefix, dest: Prefix) -> Result<(), AllocError>

@@ -1,5 +1,5 @@
 -- How inner and outer nodes grow, for every later list of what lies below them and for every packet.
-use Rattle.std.proofs.Common.{◌≡◌, ℕ, ◌+◌, ◌-◌, ◌*◌, ◌/◌, ◌^◌, ◌≤◌, ◌<◌, false, List, [], ◌∷◌, ◌++◌, length, refl, arith, le_refl}
+use Rattle.std.proofs.Common.{◌≡◌, ℕ, ◌+◌, ◌-◌, ◌*◌, ◌/◌, ◌^◌, ◌≤◌, ◌<◌, false, List, [], ◌∷◌, ◌++◌, length, refl, sym, ap, ◌∙◌, arith, le_refl}
 use Rattle.std.specs.Prelude.{filter}
 use Rattle.std.specs.List.{All}
 use Rattle.asa_base.specs.Networks.{Network}
@@ -13,9 +13,10 @@ use Rattle.asa_pair_trie.specs.declared.entries.Side.TheVariants.{Source, Dest}
 use Rattle.asa_pair_trie.specs.declared.arenas.OuterNode.{OuterNode}
 use Rattle.asa_pair_trie.specs.declared.arenas.InnerNode.{InnerNode}
 use Rattle.asa_pair_trie.specs.declared.arenas.Slot.{Slot}
-use Rattle.asa_pair_trie.specs.Finding.{seeing, seen, inner_links, inner_value, outer_links, outer_value, found, IsRising, IsPairTrie}
+use Rattle.asa_pair_trie.specs.Finding.{seeing, seen, inner_links, inner_value, outer_links, outer_value, found, entries_in, IsRising, IsPairTrie}
 use Rattle.asa_pair_trie.specs.Building.{prefix_by, worth, ChainGrown, InnerGrown, OuterGrown}
-use Rattle.asa_pair_trie.proofs.RankLaws.{seeing_laws}
+use Rattle.asa_pair_trie.proofs.RankLaws.{seeing_laws, total_is, first_permutation, covering_permutation}
+use Rattle.asa_pair_trie.proofs.HeldLaws.{added_none, added_count, added_parts}
 
 abbrev here_of : (Entry → Network) → ℕ → List Entry → List Entry
 here_of pre level es = filter (λ e. is_here level (pre e)) es
@@ -33,7 +34,7 @@ any_packet = record { ifc = 0; proto = 0; src = record { 0 = 0 }; sport = 0; dst
 pub inner_none : (slots : List Slot) (nodes : List InnerNode) (levels : ℕ) (es : List Entry) → length es ≡ 0 → InnerGrown slots slots nodes nodes 0 levels es
 inner_none slots nodes levels es none = record {
   later = later_refl slots;
-  count = omega arith;
+  added = added_none slots es none;
   grown = λ s l p. grown_none seeing inner_links (inner_value s p) (prefix_by Dest) (seen p) (home_of (prefix_by Dest) es) nodes levels es none;
 }
 
@@ -41,7 +42,7 @@ pub inner_passed : (s0 s1 : List Slot) (old new : List InnerNode) (at levels lev
     → InnerGrown s0 s1 old new at level es → InnerGrown s0 s1 old new at levels es
 inner_passed s0 s1 old new at levels level es e g = record {
   later = g.later;
-  count = g.count;
+  added = g.added;
   grown = λ s l p. grown_passed seeing inner_links (inner_value s p) (prefix_by Dest) (seen p) (home_of (prefix_by Dest) es) old new at levels level es e (g.grown s l p);
 }
 
@@ -66,7 +67,7 @@ pub inner_node : (levels level : ℕ) (es : List Entry) (s0 s1 s2 s3 : List Slot
     → InnerGrown s0 s3 old new at levels es
 inner_node levels level es s0 s1 s2 s3 old mid last new left right slot at prefix e within some mixed low high chained pushed place hp ep = record {
   later = later_next s0 s1 s3 low.later (later_next s1 s2 s3 high.later chained.later);
-  count = omega (arith, low.count, high.count, chained.count, parts_length (prefix_by Dest) level es);
+  added = added_parts (prefix_by Dest) level es s0 s1 s2 s3 low.added high.added chained.added;
   grown = λ s l p. grown_node seeing seeing_laws inner_links (inner_value s p) (prefix_by Dest) (seen p) levels level es old mid last new left right at
       (record { prefix = prefix; left = left; right = right; slot = slot })
       e within some mixed
@@ -78,7 +79,7 @@ inner_node levels level es s0 s1 s2 s3 old mid last new left right slot at prefi
 pub outer_none : (slots : List Slot) (inner : List InnerNode) (nodes : List OuterNode) (levels : ℕ) (es : List Entry) → length es ≡ 0 → OuterGrown slots slots inner inner nodes nodes 0 levels es
 outer_none slots inner nodes levels es none = record {
   later_slots = later_refl slots;
-  count = omega arith;
+  added = added_none slots es none;
   later_inner = later_refl inner;
   few_inner = omega arith;
   nested_inner = λ h. h;
@@ -89,7 +90,7 @@ pub outer_passed : (s0 s1 : List Slot) (i0 i1 : List InnerNode) (old new : List 
     → OuterGrown s0 s1 i0 i1 old new at level es → OuterGrown s0 s1 i0 i1 old new at levels es
 outer_passed s0 s1 i0 i1 old new at levels level es e g = record {
   later_slots = g.later_slots;
-  count = g.count;
+  added = g.added;
   later_inner = g.later_inner;
   few_inner = g.few_inner;
   nested_inner = g.nested_inner;
@@ -111,7 +112,7 @@ pub outer_node : (levels level : ℕ) (es : List Entry) (s0 s1 s2 s3 : List Slot
     → OuterGrown s0 s3 i0 i3 old new at levels es
 outer_node levels level es s0 s1 s2 s3 i0 i1 i2 i3 old mid last new left right root at prefix e within some mixed low high here pushed place hp ep = record {
   later_slots = later_next s0 s1 s3 low.later_slots (later_next s1 s2 s3 high.later_slots here.later);
-  count = omega (arith, low.count, high.count, here.count, parts_length (prefix_by Source) level es);
+  added = added_parts (prefix_by Source) level es s0 s1 s2 s3 low.added high.added here.added;
   later_inner = later_next i0 i1 i3 low.later_inner (later_next i1 i2 i3 high.later_inner stays);
   few_inner = omega (arith, low.few_inner, high.few_inner, inner_few s2 s3 i2 i3 root 33 (here_of (prefix_by Source) level es) here, parts_length (prefix_by Source) level es);
   nested_inner = λ h. inner_nested s2 s3 i2 i3 root 33 (here_of (prefix_by Source) level es) here (high.nested_inner (low.nested_inner h));
@@ -127,6 +128,12 @@ outer_node levels level es s0 s1 s2 s3 i0 i1 i2 i3 old mid last new left right r
     stays = inner_later s2 s3 i2 i3 root 33 (here_of (prefix_by Source) level es) here
 
 -- the whole: from no nodes, over all addresses
+built_finds : (slots : List Slot) (inner : List InnerNode) (outer : List OuterNode) (at : ℕ) (es : List Entry) → OuterGrown [] slots [] inner [] outer at 33 es
+    → (p : Packet) → found (record { outer = outer; inner = inner; slots = slots }) p ≡ total seeing (prefix_by Source) (worth p) es p.src.0
+built_finds slots inner outer at es g p =
+    root_finds seeing outer_links (outer_value slots inner p) (prefix_by Source) (worth p) (home_of (prefix_by Source) es) outer at es
+    (g.grown slots (later_refl slots) inner (later_refl inner) p) p.src.0
+
 pub built_is : (slots : List Slot) (inner : List InnerNode) (outer : List OuterNode) (at : ℕ) (es : List Entry) → OuterGrown [] slots [] inner [] outer at 33 es
     → length es ≤ 262144 → IsRising slots → IsPairTrie (record { outer = outer; inner = inner; slots = slots })
 built_is slots inner outer at es g few rising = record {
@@ -135,12 +142,8 @@ built_is slots inner outer at es g few rising = record {
     nested = (g.grown slots (later_refl slots) inner (later_refl inner) any_packet).nested (nested_none outer_links);
   };
   inner_trie = record { few = omega (arith, g.few_inner); nested = g.nested_inner (nested_none inner_links) };
-  few_slots = omega (arith, g.count);
+  few_slots = omega (arith, added_count [] slots es g.added);
   rising = rising;
+  decides = λ p. ap (λ x. x.rank) (built_finds slots inner outer at es g p) ∙ (total_is p es).0 ∙ sym (first_permutation es (entries_in slots) g.added p);
+  reads = λ p. ap (λ x. x.read) (built_finds slots inner outer at es g p) ∙ (total_is p es).1 ∙ sym (covering_permutation es (entries_in slots) g.added p);
 }
-
-pub built_finds : (slots : List Slot) (inner : List InnerNode) (outer : List OuterNode) (at : ℕ) (es : List Entry) → OuterGrown [] slots [] inner [] outer at 33 es
-    → (p : Packet) → found (record { outer = outer; inner = inner; slots = slots }) p ≡ total seeing (prefix_by Source) (worth p) es p.src.0
-built_finds slots inner outer at es g p =
-    root_finds seeing outer_links (outer_value slots inner p) (prefix_by Source) (worth p) (home_of (prefix_by Source) es) outer at es
-    (g.grown slots (later_refl slots) inner (later_refl inner) p) p.src.0

@@ -1,10 +1,12 @@
 -- Ranks and counts together: no matter how they are grouped or ordered.
 use Rattle.std.proofs.Common.{◌≡◌, ℕ, ◌+◌, ◌<◌, Bool, true, false, cond, ◌&&◌, List, [], ◌∷◌, length, Option, Some, None, refl, sym, ap, ◌∙◌, arith, min, suc, ◌⊎◌, inl, inr, get_or, drop, drop-cons, add-one}
 use Rattle.std.specs.Prelude.{filter}
+use Rattle.std.specs.List.Sorted.{IsPermutation}
 use Rattle.asa_base.specs.Boxes.{service_holds}
 use Rattle.asa_base.specs.declared.flowing.Packet.{Packet}
 use Rattle.asa_trie.specs.Bits.{covers_number}
 use Rattle.asa_trie.specs.Tries.{Laws, total}
+use Rattle.asa_trie.proofs.SumLaws.{sum_permutation}
 use Rattle.asa_pair_trie.specs.declared.entries.Entry.{Entry}
 use Rattle.asa_pair_trie.specs.declared.entries.Side.TheVariants.{Source}
 use Rattle.asa_pair_trie.specs.Pairs.{covers_both, holds, lesser, least_rank, first_of}
@@ -54,6 +56,20 @@ total_is p (e ∷ es) =
     one_more true true false held covering rest er ec = (er, omega arith)
     one_more true false v held covering rest er ec = (er, omega arith)
     one_more false d v held covering rest er ec = (er, omega arith)
+
+-- entries in another order have the same least rank of those that hold a packet
+pub first_permutation : (es fs : List Entry) → IsPermutation es fs → (p : Packet) → first_of fs p ≡ first_of es p
+first_permutation es fs same p =
+    sym (total_is p fs).0
+    ∙ ap (λ x. x.rank) (sum_permutation seeing seeing_laws (λ e. cond (covers_number (prefix_by Source e) p.src.0) (worth p e) seeing.unit) es fs same)
+    ∙ (total_is p es).0
+
+-- and as many of them cover its addresses
+pub covering_permutation : (es fs : List Entry) → IsPermutation es fs → (p : Packet) → length (filter (covers_both p) fs) ≡ length (filter (covers_both p) es)
+covering_permutation es fs same p =
+    sym (total_is p fs).1
+    ∙ ap (λ x. x.read) (sum_permutation seeing seeing_laws (λ e. cond (covers_number (prefix_by Source e) p.src.0) (worth p e) seeing.unit) es fs same)
+    ∙ (total_is p es).1
 
 -- one more entry of a list is looked at
 pub rank_step : (p : Packet) (entries : List Entry) (i : ℕ) (x : Entry) (b b' : Option ℕ) → i < length entries → x ≡ get_or entries i x

@@ -4,10 +4,10 @@ use Rattle.std.specs.Prelude.{IfSome}
 use Rattle.std.proofs.lemmas.Bool.{true≢false, ltb-true, ltb-false}
 use Rattle.asa_base.specs.Boxes.{service_holds}
 use Rattle.std.specs.List.Sorted.{IsPermutation}
-use Rattle.std.proofs.lemmas.List.Sorted.{length_permutation}
 use Rattle.asa_base.specs.declared.flowing.Packet.{Packet}
 use Rattle.asa_trie.proofs.SumLaws.{sum_permutation}
 use Rattle.asa_pair_trie.proofs.RankLaws.{seeing_laws}
+use Rattle.asa_pair_trie.proofs.HeldLaws.{added_ordered}
 use Rattle.asa_trie.specs.Tries.{node_at, Later, sum_over}
 use Rattle.asa_trie.proofs.TrieLaws.{node_before, node_cases, node_last, later_push, later_next, same_some, some_none}
 use Rattle.asa_pair_trie.specs.declared.entries.Entry.{Entry}
@@ -95,7 +95,7 @@ chain_ordered old new at es ordered same h = record {
     sum = λ later l p fuel le. h.chained.sum later l p fuel le ∙ sum_permutation seeing seeing_laws (seen p) es ordered same;
     known = h.chained.known;
   };
-  count = omega (arith, h.count, length_permutation es ordered same);
+  added = added_ordered old new es ordered same h.added;
 }
 
 -- along a chain of rising ranks more fuel than the link changes nothing

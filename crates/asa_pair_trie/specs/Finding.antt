@@ -1,5 +1,5 @@
--- What a look-up finds in the nodes and slots of compiled entries.
-use Rattle.std.specs.Prelude.{◌≡◌, ℕ, zero, suc, ◌+◌, ◌^◌, ◌<◌, ◌≤◌, Bool, true, nat_lt, List, length, Option, Some, None, if◌then◌else◌}
+-- What a look-up finds in the nodes and slots of compiled entries, and that it is the definition's answer over these entries.
+use Rattle.std.specs.Prelude.{◌≡◌, ℕ, zero, suc, ◌+◌, ◌^◌, ◌<◌, ◌≤◌, Bool, true, nat_lt, List, length, map, filter, Option, Some, None, if◌then◌else◌}
 use Rattle.asa_base.specs.Networks.{Network}
 use Rattle.asa_base.specs.Boxes.{service_holds}
 use Rattle.asa_base.specs.declared.flowing.Packet.{Packet}
@@ -9,13 +9,17 @@ use Rattle.asa_pair_trie.specs.declared.entries.Entry.{Entry}
 use Rattle.asa_pair_trie.specs.declared.arenas.OuterNode.{OuterNode}
 use Rattle.asa_pair_trie.specs.declared.arenas.InnerNode.{InnerNode}
 use Rattle.asa_pair_trie.specs.declared.arenas.Slot.{Slot}
-use Rattle.asa_pair_trie.specs.Pairs.{lesser}
+use Rattle.asa_pair_trie.specs.Pairs.{covers_both, lesser, first_of}
 
--- the compiled entries
+-- the nodes and slots of compiled entries
 pub record Arenas : Type 0 where
   pub outer : List OuterNode
   pub inner : List InnerNode
   pub slots : List Slot
+
+-- the entries that slots hold
+abbrev pub entries_in : List Slot → List Entry
+entries_in slots = map (λ s. s.entry) slots
 
 -- a least rank, and how many entries are at most read to find it
 pub record Seen : Type 0 where
@@ -72,12 +76,15 @@ pub record IsRisingAt (slots : List Slot) (i : ℕ) (s : Slot) : Type 0 where
 abbrev pub IsRising : List Slot → Type 0
 IsRising slots = (i : ℕ) (s : Slot) → node_at slots i ≡ Some s → IsRisingAt slots i s
 
--- what is true of every compiled value
+-- what is true of every compiled value: for every packet the nodes lead to the least rank of the entries that hold it,
+-- over as many entries as cover its addresses
 pub record IsPairTrie (t : Arenas) : Type 0 where
   pub outer_trie : IsTrie outer_links t.outer
   pub inner_trie : IsTrie inner_links t.inner
   pub few_slots : length t.slots < 2 ^ 32
   pub rising : IsRising t.slots
+  pub decides : (p : Packet) → (found t p).rank ≡ first_of (entries_in t.slots) p
+  pub reads : (p : Packet) → (found t p).read ≡ length (filter (covers_both p) (entries_in t.slots))
 
 -- the link to the half of a prefix's block that has the address
 abbrev pub half : Network → ℕ → ℕ → ℕ → ℕ

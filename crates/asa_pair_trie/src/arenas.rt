@@ -1,8 +1,7 @@
 //! Nodes and slots. A link is 0 for none, and else a place in the list plus 1.
 ghost use Rattle.std.specs.Prelude.{◌≡◌, ◌+◌, ◌≤◌, length, filter, IfOk};
-ghost use Rattle.asa_base.specs.declared.flowing.Packet.{Packet};
+ghost use Rattle.std.specs.List.Sorted.{IsPermutation};
 ghost use Rattle.asa_pair_trie.specs.Pairs.{covers_both, first_of};
-ghost use Rattle.asa_pair_trie.specs.Finding.{found};
 
 use crate::building::grow_outer;
 use crate::chaining::Chains;
@@ -45,7 +44,7 @@ pub struct Slot {
     pub next: u32,
 }
 
-/// Entries compiled for look-ups. Contracts see the nodes and slots; `found` says what a look-up finds in them.
+/// Entries compiled for look-ups. Contracts see the entries alone, in an order of no meaning.
 #[derive(Debug, Drop)]
 pub struct PairTrie {
     outer: Vec<Sealed<OuterNode>>,
@@ -54,22 +53,22 @@ pub struct PairTrie {
 }
 
 impl Model for PairTrie {
-    ghost use Rattle.asa_pair_trie.specs.Finding.{Arenas, IsPairTrie};
+    ghost use Rattle.std.specs.Prelude.{List};
+    ghost use Rattle.asa_pair_trie.specs.declared.entries.Entry.{Entry};
+    ghost use Rattle.asa_pair_trie.specs.Finding.{entries_in, IsPairTrie};
 
-    ghost Value = { Arenas };
+    ghost Value = { List Entry };
 
-    ghost view = { λ t. record { outer = t.outer.items; inner = t.inner.items; slots = t.entries.items } };
+    ghost view = { λ t. entries_in t.entries.items };
 
     ghost invariant = { λ t. IsPairTrie (record { outer = t.outer.items; inner = t.inner.items; slots = t.entries.items }) };
 }
 
 impl PairTrie {
-    /// Compiles entries. What a look-up then finds is the least rank of the entries that hold the packet, and it reads at
-    /// most as many entries as have both prefixes covering the packet's addresses.
+    /// Compiles entries.
     pub fn build(alloc: Global, entries: &[Entry]) -> Result<PairTrie, AllocError>
         requires { length entries.now ≤ 262144 }
-        ensures ranks { IfOk result (λ t. (p : Packet) → (found t p).rank ≡ first_of entries.now p) }
-        ensures reads { IfOk result (λ t. (p : Packet) → (found t p).read ≡ length (filter (covers_both p) entries.now)) }
+        ensures { IfOk result (λ t. IsPermutation entries.now t) }
     {
         let entries = copied(alloc, entries)?;
         let mut outer = Vec::new(alloc);
@@ -83,11 +82,11 @@ impl PairTrie {
         })
     }
 
-    /// The least rank among the entries that hold the packet; None exactly where none does. It reads at most 1,122 nodes,
-    /// and takes no memory.
+    /// The least rank among the entries that hold the packet; None exactly where none does. It reads at most 1,122 nodes
+    /// beside the entries that cover the packet's addresses, and takes no memory.
     pub fn first(&self, p: &Packet, c: &mut Counter) -> Option<u32>
-        ensures value { result ≡ (found self.now p.now).rank }
-        ensures reads { c.new ≤ c.old + 1122 + (found self.now p.now).read }
+        ensures value { result ≡ first_of self.now p.now }
+        ensures reads { c.new ≤ c.old + 1122 + length (filter (covers_both p.now) self.now) }
     {
         first_of_outer(
             self.outer.as_slice(),

@@ -1,6 +1,6 @@
 //! A configuration compiled for deciding flows.
 ghost use Rattle.std.specs.Prelude.{◌≡◌, ℕ, ◌+◌, ◌<◌, ◌≤◌, IfOk};
-ghost use Rattle.asa_access.specs.Compiled.{found_inbound, found_outbound, read_inbound, read_outbound};
+ghost use Rattle.asa_access.specs.Compiled.{covering_inbound, covering_outbound, inbound_in, outbound_in};
 ghost use Rattle.asa_base.specs.declared.flowing.Packet.{Packet as AnyPacket};
 ghost use Rattle.asa_ifaces.specs.Interfaces.{is_named};
 ghost use Rattle.asa_routes.specs.Routing.{route_of};
@@ -36,10 +36,10 @@ impl Model for Policy {
 
 /// The compiled lists and levels of a configuration.
 fn access_of(alloc: Global, config: &Config) -> Result<Access, AllocError>
-    ensures inward { IfOk result (λ a. (p : AnyPacket) (egress : ℕ) → p.ifc < 256 → found_inbound a p egress ≡ inbound config.now p egress) }
-    ensures outward { IfOk result (λ a. (p : AnyPacket) (egress : ℕ) → egress < 256 → found_outbound a p egress ≡ outbound config.now p egress) }
-    ensures inward_reads { IfOk result (λ a. (p : AnyPacket) → p.ifc < 256 → read_inbound a p ≡ inbound_covering config.now p) }
-    ensures outward_reads { IfOk result (λ a. (p : AnyPacket) (egress : ℕ) → egress < 256 → read_outbound a p egress ≡ outbound_covering config.now p egress) }
+    ensures inward { IfOk result (λ a. (p : AnyPacket) (egress : ℕ) → p.ifc < 256 → inbound_in a p egress ≡ inbound config.now p egress) }
+    ensures outward { IfOk result (λ a. (p : AnyPacket) (egress : ℕ) → egress < 256 → outbound_in a p egress ≡ outbound config.now p egress) }
+    ensures inward_reads { IfOk result (λ a. (p : AnyPacket) → p.ifc < 256 → covering_inbound a p ≡ inbound_covering config.now p) }
+    ensures outward_reads { IfOk result (λ a. (p : AnyPacket) (egress : ℕ) → egress < 256 → covering_outbound a p egress ≡ outbound_covering config.now p egress) }
 {
     let lists = access_lists(alloc, config)?;
     let global = global_place(config, lists.as_slice());

@@ -5,6 +5,7 @@ use Rattle.asa_trie.specs.Bits.{home_of, IsWithin, is_here, is_low, is_high, one
 use Rattle.asa_trie.proofs.BlockLaws.{half_passed, lows_within, highs_within, parts_length, some_level}
 use Rattle.asa_pair_trie.specs.declared.entries.Side.TheVariants.{Dest}
 use Rattle.asa_pair_trie.specs.Building.{prefix_by, ChainGrown, InnerGrown}
+use Rattle.asa_pair_trie.proofs.HeldLaws.{added_count}
 use Rattle.asa_pair_trie.proofs.GrowLaws.{inner_none, inner_passed, inner_few, inner_node}
 use Rattle.asa_pair_trie.proofs.building.+grow_inner.Goals as goal
 
@@ -65,7 +66,7 @@ grow_inner-requires-3 t c =
         omega arith,
         (
           subst (λ ys. All (λ x. IsWithin (c.args.levels - 1) (home_of (prefix_by Dest) ys) (prefix_by Dest x)) ys) (sym eh) (highs_within (prefix_by Dest) c.args.levels (c.args.levels - 1) c.args.entries.items e c.requires.within),
-          (omega (arith, few, ap length el, ap length eh, left.count, inner_few c.args.chains.now c.grow_inner-2.new.chains c.args.nodes.now.items c.grow_inner-2.new.nodes.items c.in_ok-left.left (c.args.levels - 1) c.in_ok-low.low.items left), omega (arith, few, ap length el, ap length eh, left.count, inner_few c.args.chains.now c.grow_inner-2.new.chains c.args.nodes.now.items c.grow_inner-2.new.nodes.items c.in_ok-left.left (c.args.levels - 1) c.in_ok-low.low.items left)),
+          (omega (arith, few, ap length el, ap length eh, added_count c.args.chains.now c.grow_inner-2.new.chains c.in_ok-low.low.items left.added, inner_few c.args.chains.now c.grow_inner-2.new.chains c.args.nodes.now.items c.grow_inner-2.new.nodes.items c.in_ok-left.left (c.args.levels - 1) c.in_ok-low.low.items left), omega (arith, few, ap length el, ap length eh, added_count c.args.chains.now c.grow_inner-2.new.chains c.in_ok-low.low.items left.added, inner_few c.args.chains.now c.grow_inner-2.new.chains c.args.nodes.now.items c.grow_inner-2.new.nodes.items c.in_ok-left.left (c.args.levels - 1) c.in_ok-low.low.items left)),
         ),
       ),
     )
@@ -81,7 +82,7 @@ add_chain-requires t c =
     let few = parts_length (prefix_by Dest) (c.args.levels - 1) c.args.entries.items in
     let left : InnerGrown c.args.chains.now c.grow_inner-2.new.chains c.args.nodes.now.items c.grow_inner-2.new.nodes.items c.in_ok-left.left (c.args.levels - 1) c.in_ok-low.low.items = c.in_ok-left.ensures in
     let right : InnerGrown c.grow_inner-2.new.chains c.grow_inner-3.new.chains c.grow_inner-2.new.nodes.items c.grow_inner-3.new.nodes.items c.in_ok-right.right (c.args.levels - 1) c.in_ok-high.high.items = c.in_ok-right.ensures in
-    omega (arith, few, ap length en, ap length el, ap length eh, left.count, right.count)
+    omega (arith, few, ap length en, ap length el, ap length eh, added_count c.args.chains.now c.grow_inner-2.new.chains c.in_ok-low.low.items left.added, added_count c.grow_inner-2.new.chains c.grow_inner-3.new.chains c.in_ok-high.high.items right.added)
 
 pub add_inner-requires : goal.add_inner-requires
 add_inner-requires t c =

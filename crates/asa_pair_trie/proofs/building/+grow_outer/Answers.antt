@@ -6,6 +6,7 @@ use Rattle.asa_trie.specs.Bits.{home_of, IsWithin, is_here, is_low, is_high, one
 use Rattle.asa_trie.proofs.BlockLaws.{half_passed, lows_within, highs_within, parts_length, some_level, whole_block}
 use Rattle.asa_pair_trie.specs.declared.entries.Side.TheVariants.{Source, Dest}
 use Rattle.asa_pair_trie.specs.Building.{prefix_by, InnerGrown, OuterGrown}
+use Rattle.asa_pair_trie.proofs.HeldLaws.{added_count}
 use Rattle.asa_pair_trie.proofs.GrowLaws.{outer_none, outer_passed, outer_few, outer_node}
 use Rattle.asa_pair_trie.proofs.building.+grow_outer.Goals as goal
 
@@ -66,7 +67,7 @@ grow_outer-requires-3 t c =
         omega arith,
         (
           subst (λ ys. All (λ x. IsWithin (c.args.levels - 1) (home_of (prefix_by Source) ys) (prefix_by Source x)) ys) (sym eh) (highs_within (prefix_by Source) c.args.levels (c.args.levels - 1) c.args.entries.items e c.requires.within),
-          (subst (λ ys. All (λ x. (prefix_by Dest x).addr.0 < 2 ^ 32) ys) (sym eh) (All-filter (λ x. is_high (c.args.levels - 1) (prefix_by Source x)) (λ x. (prefix_by Dest x).addr.0 < 2 ^ 32) c.args.entries.items c.requires.dests), (omega (arith, few, ap length el, ap length eh, left.count, left.few_inner, outer_few c.args.chains.now c.grow_outer-2.new.chains c.args.inner.now.items c.grow_outer-2.new.inner.items c.args.nodes.now.items c.grow_outer-2.new.nodes.items c.in_ok-left.left (c.args.levels - 1) c.in_ok-low.low.items left), (omega (arith, few, ap length el, ap length eh, left.count, left.few_inner, outer_few c.args.chains.now c.grow_outer-2.new.chains c.args.inner.now.items c.grow_outer-2.new.inner.items c.args.nodes.now.items c.grow_outer-2.new.nodes.items c.in_ok-left.left (c.args.levels - 1) c.in_ok-low.low.items left), omega (arith, few, ap length el, ap length eh, left.count, left.few_inner, outer_few c.args.chains.now c.grow_outer-2.new.chains c.args.inner.now.items c.grow_outer-2.new.inner.items c.args.nodes.now.items c.grow_outer-2.new.nodes.items c.in_ok-left.left (c.args.levels - 1) c.in_ok-low.low.items left)))),
+          (subst (λ ys. All (λ x. (prefix_by Dest x).addr.0 < 2 ^ 32) ys) (sym eh) (All-filter (λ x. is_high (c.args.levels - 1) (prefix_by Source x)) (λ x. (prefix_by Dest x).addr.0 < 2 ^ 32) c.args.entries.items c.requires.dests), (omega (arith, few, ap length el, ap length eh, added_count c.args.chains.now c.grow_outer-2.new.chains c.in_ok-low.low.items left.added, left.few_inner, outer_few c.args.chains.now c.grow_outer-2.new.chains c.args.inner.now.items c.grow_outer-2.new.inner.items c.args.nodes.now.items c.grow_outer-2.new.nodes.items c.in_ok-left.left (c.args.levels - 1) c.in_ok-low.low.items left), (omega (arith, few, ap length el, ap length eh, added_count c.args.chains.now c.grow_outer-2.new.chains c.in_ok-low.low.items left.added, left.few_inner, outer_few c.args.chains.now c.grow_outer-2.new.chains c.args.inner.now.items c.grow_outer-2.new.inner.items c.args.nodes.now.items c.grow_outer-2.new.nodes.items c.in_ok-left.left (c.args.levels - 1) c.in_ok-low.low.items left), omega (arith, few, ap length el, ap length eh, added_count c.args.chains.now c.grow_outer-2.new.chains c.in_ok-low.low.items left.added, left.few_inner, outer_few c.args.chains.now c.grow_outer-2.new.chains c.args.inner.now.items c.grow_outer-2.new.inner.items c.args.nodes.now.items c.grow_outer-2.new.nodes.items c.in_ok-left.left (c.args.levels - 1) c.in_ok-low.low.items left)))),
         ),
       ),
     )
@@ -101,7 +102,7 @@ grow_inner-requires-clause-slots t c =
     let few = parts_length (prefix_by Source) (c.args.levels - 1) c.args.entries.items in
     let left : OuterGrown c.args.chains.now c.grow_outer-2.new.chains c.args.inner.now.items c.grow_outer-2.new.inner.items c.args.nodes.now.items c.grow_outer-2.new.nodes.items c.in_ok-left.left (c.args.levels - 1) c.in_ok-low.low.items = c.in_ok-left.ensures in
     let right : OuterGrown c.grow_outer-2.new.chains c.grow_outer-3.new.chains c.grow_outer-2.new.inner.items c.grow_outer-3.new.inner.items c.grow_outer-2.new.nodes.items c.grow_outer-3.new.nodes.items c.in_ok-right.right (c.args.levels - 1) c.in_ok-high.high.items = c.in_ok-right.ensures in
-    omega (arith, few, ap length en, ap length el, ap length eh, left.count, right.count)
+    omega (arith, few, ap length en, ap length el, ap length eh, added_count c.args.chains.now c.grow_outer-2.new.chains c.in_ok-low.low.items left.added, added_count c.grow_outer-2.new.chains c.grow_outer-3.new.chains c.in_ok-high.high.items right.added)
 
 pub add_outer-requires : goal.add_outer-requires
 add_outer-requires t c =

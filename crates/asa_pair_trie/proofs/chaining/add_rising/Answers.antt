@@ -5,7 +5,8 @@ use Rattle.asa_trie.specs.Tries.{Later}
 use Rattle.asa_trie.proofs.TrieLaws.{later_refl, later_next, later_push}
 use Rattle.asa_pair_trie.specs.declared.entries.Entry.{Entry}
 use Rattle.asa_pair_trie.specs.declared.arenas.Slot.{Slot}
-use Rattle.asa_pair_trie.specs.Building.{Chained}
+use Rattle.asa_pair_trie.specs.Building.{Chained, Added}
+use Rattle.asa_pair_trie.proofs.HeldLaws.{added_none, added_push}
 use Rattle.asa_pair_trie.proofs.SlotLaws.{chained_none, chained_push, pushed_top, drop_front}
 use Rattle.asa_pair_trie.proofs.chaining.add_rising.Goals as goal
 
@@ -14,6 +15,7 @@ loop-k-init c = record {
   within = le_refl (length c.args.entries.now);
   later = later_refl c.args.chains.now;
   chained = subst (λ es. Chained c.args.chains.now 0 es) (sym (drop_of_length-le c.args.entries.now (le_refl (length c.args.entries.now)))) (chained_none c.args.chains.now);
+  added = added_none c.args.chains.now (drop (length c.args.entries.now) c.args.entries.now) (ap length (drop_of_length-le c.args.entries.now (le_refl (length c.args.entries.now))));
   count = refl;
   top = λ t e. cc;
 }
@@ -42,6 +44,8 @@ loop-k-preserved c =
       later = later_next c.args.chains.now c.loop-k.chains new c.loop-k.invariant.later (subst (λ ys. Later c.loop-k.chains ys) (sym added) (later_push c.loop-k.chains (record { entry = e; next = c.loop-k.at })));
       chained = subst (λ es. Chained new c.in_ok-at.at es) (sym front)
           (chained_push c.loop-k.chains new c.loop-k.at c.in_ok-at.at e (drop k c.args.entries.now) c.loop-k.invariant.chained added c.in_ok-at.ensures.link);
+      added = subst (λ es. Added c.args.chains.now new es) (sym front)
+          (added_push c.args.chains.now c.loop-k.chains new (record { entry = e; next = c.loop-k.at }) (drop k c.args.entries.now) added c.loop-k.invariant.added);
       count = omega (arith, long, c.loop-k.invariant.count);
       top = λ t here. subst (λ x. slice_get c.args.entries.now (k - 1) ≡ Some x.entry)
           (pushed_top c.loop-k.chains new (record { entry = e; next = c.loop-k.at }) t c.in_ok-at.at added c.in_ok-at.ensures.link here)

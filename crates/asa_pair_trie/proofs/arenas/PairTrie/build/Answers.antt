@@ -1,13 +1,12 @@
-use Rattle.std.proofs.Common.{◌≡◌, ℕ, List, [], length, filter, sym, ap, ◌∙◌, subst, arith}
+use Rattle.std.proofs.Common.{◌≡◌, ℕ, List, [], length, sym, ap, subst, arith}
+use Rattle.std.specs.List.Sorted.{IsPermutation}
 use Rattle.asa_pair_trie.specs.declared.entries.Entry.{Entry}
 use Rattle.asa_pair_trie.specs.declared.arenas.OuterNode.{OuterNode}
 use Rattle.asa_pair_trie.specs.declared.arenas.InnerNode.{InnerNode}
 use Rattle.asa_pair_trie.specs.declared.arenas.Slot.{Slot}
-use Rattle.asa_pair_trie.specs.Pairs.{covers_both, first_of}
-use Rattle.asa_pair_trie.specs.Finding.{IsRising}
+use Rattle.asa_pair_trie.specs.Finding.{IsRising, entries_in}
 use Rattle.asa_pair_trie.specs.Building.{OuterGrown}
-use Rattle.asa_pair_trie.proofs.RankLaws.{total_is}
-use Rattle.asa_pair_trie.proofs.GrowLaws.{built_is, built_finds}
+use Rattle.asa_pair_trie.proofs.GrowLaws.{built_is}
 use Rattle.asa_pair_trie.proofs.arenas.PairTrie.build.Goals as goal
 
 -- the nodes and slots have grown from none
@@ -24,16 +23,8 @@ invariant_of-result c =
     built_is c.into_slots.result.items c.grow_outer.new.inner.items c.grow_outer.new.nodes.items c.in_ok-_root._root c.in_ok-entries.entries.items g
     (omega (arith, ap length c.in_ok-entries.ensures.same, c.requires)) (subst (λ xs. IsRising xs) (sym c.into_slots.ensures.slots) c.into_slots.ensures.rising)
 
-pub returns-clause-ranks : goal.returns-clause-ranks
-returns-clause-ranks c = λ p.
+pub returns : goal.returns
+returns c =
     let g = from_none c.into_slots.result.items c.new-chains.result c.grow_outer.new.chains c.new-inner.result.items c.grow_outer.new.inner.items c.new-outer.result.items c.grow_outer.new.nodes.items
     c.in_ok-_root._root c.in_ok-entries.entries.items c.new-chains.ensures c.new-inner.ensures.items c.new-outer.ensures.items c.into_slots.ensures.slots c.in_ok-_root.ensures in
-    ap (λ x. x.rank) (built_finds c.into_slots.result.items c.grow_outer.new.inner.items c.grow_outer.new.nodes.items c.in_ok-_root._root c.in_ok-entries.entries.items g p)
-    ∙ (total_is p c.in_ok-entries.entries.items).0 ∙ ap (λ es. first_of es p) c.in_ok-entries.ensures.same
-
-pub returns-clause-reads : goal.returns-clause-reads
-returns-clause-reads c = λ p.
-    let g = from_none c.into_slots.result.items c.new-chains.result c.grow_outer.new.chains c.new-inner.result.items c.grow_outer.new.inner.items c.new-outer.result.items c.grow_outer.new.nodes.items
-    c.in_ok-_root._root c.in_ok-entries.entries.items c.new-chains.ensures c.new-inner.ensures.items c.new-outer.ensures.items c.into_slots.ensures.slots c.in_ok-_root.ensures in
-    ap (λ x. x.read) (built_finds c.into_slots.result.items c.grow_outer.new.inner.items c.grow_outer.new.nodes.items c.in_ok-_root._root c.in_ok-entries.entries.items g p)
-    ∙ (total_is p c.in_ok-entries.entries.items).1 ∙ ap (λ es. length (filter (covers_both p) es)) c.in_ok-entries.ensures.same
+    subst (λ es. IsPermutation es (entries_in c.into_slots.result.items)) c.in_ok-entries.ensures.same g.added
