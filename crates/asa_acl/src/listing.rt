@@ -1,7 +1,7 @@
 //! Access lists, and the lines that they hold.
-ghost use Rattle.std.specs.Prelude.{◌≡◌, ℕ, ◌+◌, ◌-◌, ◌^◌, ◌<◌, ◌≤◌, ◌↔◌, List, [], length, insert, remove, position, OnOk, OnErr, IfOk, IfSome, IsErrOf, is_some};
+ghost use Rattle.std.specs.Prelude.{◌≡◌, ℕ, ◌+◌, ◌-◌, ◌^◌, ◌<◌, ◌≤◌, ◌↔◌, List, [], length, insert, remove, position, filter, OnOk, OnErr, IfOk, IfSome, IsErrOf, is_some};
 ghost use Rattle.std.specs.Option.{option_copied};
-ghost use Rattle.asa_ace.specs.Lines.{line_eq};
+ghost use Rattle.asa_ace.specs.Lines.{line_eq, line_uses};
 ghost use Rattle.asa_acl.specs.Lists as spec;
 ghost use Rattle.asa_acl.specs.Marks as marks;
 ghost use Rattle.asa_acl.specs.Uses as uses;
@@ -10,7 +10,7 @@ use crate::counting::NameCounts;
 use crate::marking::mark_of;
 use asa_ace::AclLine;
 use asa_base::Name;
-use asa_text::Shared;
+use asa_text::{Items, Shared};
 use std::alloc::{AllocError, Global};
 use std::marker::Model;
 
@@ -146,6 +146,19 @@ fn share_lines(alloc: Global, lines: &[HeldLine]) -> Result<Vec<HeldLine>, Alloc
     Ok(shared)
 }
 
+/// Those of the lines that use the object or group of this name, held once more.
+fn share_using(alloc: Global, lines: &[HeldLine], name: &Name) -> Result<Vec<HeldLine>, AllocError>
+    ensures { IfOk result (λ v. v.items ≡ filter (line_uses name.now) lines.now) }
+{
+    let mut shared = Vec::new(alloc);
+    for held in lines {
+        if held.line().uses(name) {
+            shared.push(held.share()?)?;
+        }
+    }
+    Ok(shared)
+}
+
 impl Acl {
     /// A list without a line; takes no memory.
     pub fn new(alloc: Global, name: Name) -> Acl
@@ -256,6 +269,14 @@ impl Acl {
         ensures { result ≡ spec.list_uses name.now self.now }
     {
         self.uses.count_of(name) > 0
+    }
+
+    /// The lines that use the object or group of this name, each once, in no certain order; reads no other line.
+    pub fn lines_using(&self, name: &Name) -> Result<Items<HeldLine>, AllocError>
+        ensures { IfOk result (λ ls. spec.AreUsing ls name.now self.now.lines) }
+    {
+        let lines = share_using(self.alloc, self.lines.as_slice(), name)?;
+        Ok(Items::from(lines))
     }
 
     /// A copy, which shares the lines.
