@@ -11,7 +11,7 @@ ghost use Rattle.asa_config.specs.Using as spec;
 use crate::fitting::Counts;
 use crate::listing::KeptList;
 use crate::scoping::Scope;
-use crate::tabling::ListTable;
+use crate::tabling::{ListTable, count_at};
 use asa_acl::{Ace, Acl, AclLine};
 use asa_base::Name;
 use asa_boxes::line_pairs;
@@ -204,7 +204,7 @@ pub(crate) fn counts_with(
         let Some(list) = table.at(i) else {
             unreachable!()
         };
-        let pairs = pairs_with(alloc, scope, list.acl(), names, rests[i])?;
+        let pairs = pairs_with(alloc, scope, list.acl(), names, count_at(rests, i))?;
         each.push(pairs)?;
         total = plus(total, pairs)?;
     }
