@@ -1,5 +1,5 @@
 -- What a change of objects and groups leaves as it is, and what it answers.
-use Rattle.std.proofs.Common.{◌≡◌, ℕ, ◌≤◌, ◌<◌, nat_le, if◌then◌else◌, Bool, List, true, false, Option, is_some, Result, Ok, Err, refl, sym, ap, subst, ◌∙◌, arith}
+use Rattle.std.proofs.Common.{◌≡◌, ℕ, ◌≤◌, ◌<◌, nat_le, if◌then◌else◌, Bool, List, true, false, Option, is_some, Result, Ok, Err, OnOk, refl, sym, ap, subst, ◌∙◌, arith}
 use Rattle.std.proofs.lemmas.Bool.{le-leb}
 use Rattle.asa_text.specs.Words.{line_left}
 use Rattle.asa_members.specs.declared.topping.Top.{Top}
@@ -22,8 +22,8 @@ use Rattle.asa_config.specs.Settings.{Settings}
 use Rattle.asa_config.specs.Counted.{Counted, lists_in}
 use Rattle.asa_config.specs.Knowing.{meanings_in, pairs_of_lists, pair_count}
 use Rattle.asa_config.specs.Soundness.{IsKept, AreCounted, all_defined, is_global_defined}
-use Rattle.asa_config.specs.Judging.{Judged, refused, ◌>>=◌}
-use Rattle.asa_config.specs.Objects.{IsApart, Recounts, list_using, object_step, of_objects, told, with_objects, changed}
+use Rattle.asa_config.specs.Judging.{Gives, Judged, refused, ◌>>=◌}
+use Rattle.asa_config.specs.Objects.{IsApart, Recounts, list_using, object_refusal, object_step, of_objects, told, with_objects, changed}
 use Rattle.asa_config.proofs.SameLaws.{counted_same, fits_same, apart_keeps}
 
 abbrev Bound : Type 0
@@ -53,23 +53,24 @@ unfolding object_step
 made_apart c new b few apart made keeps = ap (λ r. of_objects r >>= changed c) made ∙ fits_same c new (apart_keeps c b new apart made keeps) few
 
 -- a refusal of the block is that of its object or group
-abbrev pub Refuses : Judged (Unit {0}) → Judged Settings → Type 0
-Refuses (Ok _) s = Unit {0}
-Refuses (Err NoMemory) s = Unit {0}
-Refuses (Err (At line fault)) s = s ≡ Err (At line fault)
-
-pub refused_object : (x : Result (Unit {0}) ObjectFault) (c : Settings) (new : Table) (b : Block) → Defines x c.objects new (defined c.objects b) → Refuses (told x) (object_step c b)
+refused_for : (f : ObjectFault) (c : Settings) (new : Table) (b : Block) → Defines (Err f) c.objects new (defined c.objects b) → Gives {X = Settings} (Err (object_refusal f)) (object_step c b)
 unfolding object_step
-refused_object (Ok u) c new b made = tt
-refused_object (Err fault.NoMemory) c new b made = tt
-refused_object (Err fault.NameTaken) c new b made = ap (λ r. of_objects r >>= changed c) made.0
-refused_object (Err (fault.Unknown n k)) c new b made = ap (λ r. of_objects r >>= changed c) made.0
-refused_object (Err (fault.Bad n k)) c new b made = ap (λ r. of_objects r >>= changed c) made.0
-refused_object (Err (fault.Unsupported n k)) c new b made = ap (λ r. of_objects r >>= changed c) made.0
-refused_object (Err (fault.Cycle n)) c new b made = ap (λ r. of_objects r >>= changed c) made.0
-refused_object (Err (fault.NoSuchMember n)) c new b made = ap (λ r. of_objects r >>= changed c) made.0
-refused_object (Err (fault.NotBuilt n)) c new b made = ap (λ r. of_objects r >>= changed c) made.0
-refused_object (Err fault.TooMany) c new b made = ap (λ r. of_objects r >>= changed c) made.0
+refused_for fault.NoMemory c new b made = tt
+refused_for fault.NameTaken c new b made = ap (λ r. of_objects r >>= changed c) made.0
+refused_for (fault.Unknown n k) c new b made = ap (λ r. of_objects r >>= changed c) made.0
+refused_for (fault.Bad n k) c new b made = ap (λ r. of_objects r >>= changed c) made.0
+refused_for (fault.Unsupported n k) c new b made = ap (λ r. of_objects r >>= changed c) made.0
+refused_for (fault.Cycle n) c new b made = ap (λ r. of_objects r >>= changed c) made.0
+refused_for (fault.NoSuchMember n) c new b made = ap (λ r. of_objects r >>= changed c) made.0
+refused_for (fault.NotBuilt n) c new b made = ap (λ r. of_objects r >>= changed c) made.0
+refused_for fault.TooMany c new b made = ap (λ r. of_objects r >>= changed c) made.0
+
+pub refused_object : (x : Result (Unit {0}) ObjectFault) (y : Judged (Unit {0})) (r : EditRefusal) (c : Settings) (new : Table) (b : Block) → y ≡ told x → y ≡ Err r
+    → Defines x c.objects new (defined c.objects b) → Gives {X = Settings} (Err r) (object_step c b)
+refused_object (Ok u) y r c new b is refused made = absurd (cc)
+refused_object (Err f) y r c new b is refused made =
+    let same : object_refusal f ≡ r = cc in
+    subst (λ r. Gives {X = Settings} (Err r) (object_step c b)) same (refused_for f c new b made)
 
 -- each name that doesn't reach what the block defines stands for the same
 pub others_keep : (old : Table) (b : Block) (new : Table) (names : List (List ℕ)) → ForName b (λ name. (q : List ℕ) → has_name names q ≡ reaches old q name)
@@ -89,18 +90,34 @@ made_used c b new made few =
     ap (λ r. of_objects r >>= changed c) made
     ∙ ap (λ (v : Bool). if v then Ok (with_objects c new) else refused 1 (TooLarge (capped (pair_count (with_objects c new))))) (le-leb (pair_count (with_objects c new)) 262144 few)
 
-pub refused_used : {X : Type 0} (x : Result X EditRefusal) (c : Settings) (b : Block) (new : Table) (r : EditRefusal) → defined c.objects b ≡ Ok new → x ≡ Err r
-    → Recounts x (pairs_of_lists (meanings_in new c.net.ifaces) c.lists) → Refuses (Err r) (object_step c b)
+refused_count : (r : EditRefusal) (c : Settings) (b : Block) (new : Table) → defined c.objects b ≡ Ok new → Recounts {X = Table} (Err r) (pairs_of_lists (meanings_in new c.net.ifaces) c.lists)
+    → Gives {X = Settings} (Err r) (object_step c b)
 unfolding object_step fitting
-refused_used (Ok t) c b new r made is answer = absurd (cc)
-refused_used (Err NoMemory) c b new NoMemory made is answer = tt
-refused_used (Err NoMemory) c b new (At n f) made is answer = absurd (cc)
-refused_used (Err (At n f)) c b new NoMemory made is answer = absurd (cc)
-refused_used (Err (At n f)) c b new (At m g) made is answer =
-    let same : At n f ≡ At m g = cc in
+refused_count NoMemory c b new made answer = tt
+refused_count (At n f) c b new made answer =
     ap (λ r. of_objects r >>= changed c) made
     ∙ ap (λ (v : Bool). if v then Ok (with_objects c new) else refused 1 (TooLarge (capped (pair_count (with_objects c new))))) (many (pair_count (with_objects c new)) answer.0)
-    ∙ ap Err (sym answer.1 ∙ same)
+    ∙ ap Err (sym answer.1)
   where
     many : (n : ℕ) → 262144 < n → nat_le n 262144 ≡ false
     many n lt = grind arith
+
+pub refused_used : {X : Type 0} (x : Result X EditRefusal) (r : EditRefusal) (c : Settings) (b : Block) (new : Table) → defined c.objects b ≡ Ok new → x ≡ Err r
+    → Recounts x (pairs_of_lists (meanings_in new c.net.ifaces) c.lists) → Gives {X = Settings} (Err r) (object_step c b)
+refused_used {X} (Ok t) r c b new made is answer = absurd (cc)
+refused_used {X} (Err f) r c b new made is answer = let same : f ≡ r = cc in subst (λ r. Gives {X = Settings} (Err r) (object_step c b)) same (refused_count f c b new made (as_table f answer))
+  where
+    as_table : (f : EditRefusal) → Recounts {X = X} (Err f) (pairs_of_lists (meanings_in new c.net.ifaces) c.lists) → Recounts {X = Table} (Err f) (pairs_of_lists (meanings_in new c.net.ifaces) c.lists)
+    as_table NoMemory h = h
+    as_table (At n g) h = h
+
+-- and what is answered where they are few
+pub few_used : {X : Type 0} (x : Result X EditRefusal) (t : X) (n : ℕ) → x ≡ Ok t → Recounts x n → n ≤ 262144
+few_used (Ok t) u n is answer = answer
+few_used (Err f) u n is answer = absurd (cc)
+
+-- what holds where the block was taken
+pub when_taken : (x : Result (Unit {0}) ObjectFault) (y : Judged (Unit {0})) (u : Unit {0}) (old new : Table) (s : Result Table ObjectFault) (K : Type 0) → y ≡ told x → y ≡ Ok u
+    → Defines x old new s → OnOk x K → (s ≡ Ok new) × K
+when_taken (Ok v) y u old new s K is taken made keeps = (made, keeps)
+when_taken (Err f) y u old new s K is taken made keeps = absurd (cc)
