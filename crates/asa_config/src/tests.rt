@@ -487,3 +487,32 @@ fn a_value_is_refused_under_which_there_are_too_many_pairs(rt: HostRuntime) -> R
     assert_eq!(rt; config.pair_count(), 261_393);
     Ok(())
 }
+
+#[test]
+fn a_changed_name_counts_each_line_that_uses_it_once(rt: HostRuntime) -> Result<(), Fail> {
+    // The line of the base has one pair; so has each of the three lines while the object is one host.
+    let config = configured(
+        rt.alloc(),
+        b"object network A\n host 10.0.0.9\n\
+        object-group network G\n network-object object A\n\
+        access-list L permit ip object A object A\n\
+        access-list M permit ip object-group G object A\n\
+        access-list M permit ip any any\n",
+    )?;
+    assert_eq!(rt; config.pair_count(), 4);
+    // Two hosts that are no block: 4 pairs for the first line and 4 for the second.
+    let config = taken(
+        rt.alloc(),
+        config,
+        b"object network A\n range 10.0.0.1 10.0.0.2\n",
+    )?;
+    assert_eq!(rt; config.pair_count(), 10);
+    // A third member of the group: 6 pairs for the second line.
+    let config = taken(
+        rt.alloc(),
+        config,
+        b"object-group network G\n network-object host 10.0.0.4\n",
+    )?;
+    assert_eq!(rt; config.pair_count(), 12);
+    Ok(())
+}
