@@ -1,4 +1,5 @@
-//! Access lists: their lines in order, those that use each object and group, and the removal of equal lines. It hands on what a line says and how it is read.
+//! Access lists: their lines in order, those of them that use each object and group, and the removal of equal lines. It
+//! hands on what a line says and how it is read.
 #![tactic(auto)]
 
 mod holding;

@@ -1,4 +1,4 @@
-use Rattle.std.proofs.Common.{◌≡◌, ◌+◌, sum_by, refl, List, sym, ap, subst, ◌∙◌, is_some, Some, None}
+use Rattle.std.proofs.Common.{◌≡◌, ◌+◌, sum_by, refl, sym, ap, subst, ◌∙◌, is_some, Some, None}
 use Rattle.std.specs.Map.{lookup}
 use Rattle.std.specs.Str.{bytes_eq}
 use Rattle.asa_acl.specs.Uses.{LinesByName, KeepsMore}

@@ -1,4 +1,4 @@
-use Rattle.std.proofs.Common.{◌≡◌, ◌==◌, length, sum_by, refl, sym, ap, ◌∙◌, is_some, Some}
+use Rattle.std.proofs.Common.{◌==◌, length, sum_by, refl, sym, ap, ◌∙◌, is_some, Some}
 use Rattle.asa_acl.proofs.KeepLaws.{changed_less, lines_found, kept_alone, kept_there}
 use Rattle.asa_acl.proofs.using.take_from.Goals as goal
 

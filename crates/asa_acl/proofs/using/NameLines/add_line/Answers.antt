@@ -1,4 +1,4 @@
-use Rattle.std.proofs.Common.{◌≡◌, ◌+◌, map, ap, sym, ◌∙◌, sum_by, subst, arith, if◌then◌else◌}
+use Rattle.std.proofs.Common.{map, sym, ◌∙◌, subst}
 use Rattle.std.specs.Option.{option_copied}
 use Rattle.asa_ace.specs.Lines.{line_uses}
 use Rattle.asa_acl.specs.Uses.{LinesByName, KeepsMore}

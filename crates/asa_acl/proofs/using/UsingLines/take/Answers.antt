@@ -1,4 +1,4 @@
-use Rattle.std.proofs.Common.{◌≡◌, ◌<◌, List, length, get_or, swap_remove, sum_by, ap, sym, ◌∙◌, arith}
+use Rattle.std.proofs.Common.{List, length, get_or, sum_by, ap, sym, ◌∙◌, arith}
 use Rattle.asa_ace.specs.declared.stating.AclLine.{AclLine}
 use Rattle.asa_acl.proofs.UseLaws.{sum_without}
 use Rattle.asa_acl.proofs.using.UsingLines.take.Goals as goal
