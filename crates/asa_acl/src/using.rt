@@ -12,7 +12,7 @@ use indexmap::IndexMap;
 use std::alloc::{AllocError, Global};
 use std::marker::Model;
 
-/// The place of a line that is equal to one of these.
+/// The place of the first line that is equal to this one; the lines have one, since no sum over them is less.
 fn place_in(lines: &[HeldLine], held: &HeldLine) -> usize
     requires { (f : AclLine → ℕ) → f held.now ≤ sum_by f lines.now }
     ensures within { result < length lines.now }
