@@ -1,3 +1,3 @@
-mod CountLaws
+mod KeepLaws
 mod LineLaws
 mod UseLaws

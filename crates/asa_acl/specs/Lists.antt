@@ -1,5 +1,5 @@
 -- Access lists: a name and lines in order. Lines are numbered from 1, and remarks count.
-use Rattle.std.specs.Prelude.{ℕ, ◌-◌, Bool, ◌==◌, List, length, insert, remove, slice_get, position, min, Option, Some, None, if◌then◌else◌}
+use Rattle.std.specs.Prelude.{ℕ, ◌-◌, Bool, List, length, insert, remove, position, filter, sum_by, min, ◌≡◌, Option, Some, None}
 use Rattle.std.specs.List.{list_any}
 use Rattle.asa_ace.specs.declared.stating.AclLine.{AclLine}
 use Rattle.asa_ace.specs.Lines.{line_eq, line_uses}
@@ -31,10 +31,11 @@ without lines (Some i) = remove lines i
 unfoldable pub without_equal : AccessLines → AclLine → AccessLines
 without_equal acl item = record acl { lines = without acl.lines (place_of_equal item acl.lines) }
 
--- line n
-abbrev pub line_at : ℕ → List AclLine → Option AclLine
-line_at n lines = if n == 0 then None else slice_get lines (n - 1)
-
 -- some line uses the object or group of this name
 unfoldable pub list_uses : List ℕ → AccessLines → Bool
 list_uses name acl = list_any (line_uses name) acl.lines
+
+-- the lines that use the object or group of this name, each as often as it stands in the list, in any order: every sum
+-- over the ones is the sum over the others
+abbrev pub AreUsing : List AclLine → List ℕ → List AclLine → Type 0
+AreUsing used name lines = (f : AclLine → ℕ) → sum_by f used ≡ sum_by f (filter (line_uses name) lines)

@@ -1,34 +1,42 @@
--- How often the lines of a list use each object and group.
-use Rattle.std.specs.Prelude.{ℕ, ◌+◌, List, Option, sum_by, unwrap_or, if◌then◌else◌}
+-- Which lines a list keeps of each object and group that they use. Sums over lines tell which lines there are, and say
+-- nothing of their order.
+use Rattle.std.specs.Prelude.{◌≡◌, ℕ, ◌+◌, ◌≤◌, Bool, List, [], ◌∷◌, Option, Some, None, sum_by, unwrap_or, if◌then◌else◌}
+use Rattle.std.specs.List.{list_any}
 use Rattle.std.specs.Map.{lookup}
 use Rattle.std.specs.Str.{bytes_eq}
-use Rattle.asa_ace.specs.declared.stating.ServiceRef.{ServiceRef}
 use Rattle.asa_ace.specs.declared.stating.Ace.{Ace}
 use Rattle.asa_ace.specs.declared.stating.AclLine.{AclLine}
-use Rattle.asa_ace.specs.declared.stating.AclLine.TheVariants as line
 use Rattle.asa_ace.specs.Lines.{address_name, service_name, source_ports_name, dest_ports_name, is_named}
 
--- 1 where this name stands there, and 0 otherwise
-abbrev pub uses_at : List ℕ → Option (List ℕ) → ℕ
-uses_at name place = if is_named name place then 1 else 0
+-- the places of an entry where a name may stand
+abbrev pub places : Ace → List (Option (List ℕ))
+places a = service_name a.service ∷ source_ports_name a.service ∷ dest_ports_name a.service ∷ address_name a.source ∷ address_name a.dest ∷ []
 
--- at how many of the three places of a service the name stands
-unfoldable pub service_count : List ℕ → ServiceRef → ℕ
-service_count name s = uses_at name (service_name s) + uses_at name (source_ports_name s) + uses_at name (dest_ports_name s)
+-- the name stands at one of these places
+abbrev pub stands_at : List ℕ → List (Option (List ℕ)) → Bool
+stands_at name places = list_any (is_named name) places
 
--- at how many places of an entry the name stands
-unfoldable pub ace_count : List ℕ → Ace → ℕ
-ace_count name a = service_count name a.service + uses_at name (address_name a.source) + uses_at name (address_name a.dest)
+-- the name that stands there, if it stands at none of the places that follow
+abbrev pub last_name : Option (List ℕ) → List (Option (List ℕ)) → Option (List ℕ)
+last_name None rest = None
+last_name (Some name) rest = if stands_at name rest then None else Some name
 
--- at how many places of a line the name stands
-unfoldable pub line_count : List ℕ → AclLine → ℕ
-line_count name (line.Ace a) = ace_count name a
-line_count name (line.Remark _) = 0
+-- the lines that are kept of each name
+abbrev pub LinesByName : Type 0
+LinesByName = List (List ℕ × List AclLine)
 
--- at how many places of the lines the name stands
-unfoldable pub lines_count : List ℕ → List AclLine → ℕ
-lines_count name lines = sum_by (line_count name) lines
+-- the lines that are kept of a name; of a name that isn't there, none
+unfoldable pub lines_of : LinesByName → List ℕ → List AclLine
+lines_of kept name = unwrap_or (lookup (bytes_eq name) kept) []
 
--- the count that is kept of a name; a name that isn't there counts 0
-unfoldable pub count_of : List (List ℕ × ℕ) → List ℕ → ℕ
-count_of counts name = unwrap_or (lookup (bytes_eq name) counts) 0
+-- the same lines are kept of each name
+abbrev pub KeepsSame : LinesByName → LinesByName → Type 0
+KeepsSame old new = (n : List ℕ) (f : AclLine → ℕ) → sum_by f (lines_of new n) ≡ sum_by f (lines_of old n)
+
+-- one more line is kept of each of these names
+abbrev pub KeepsMore : LinesByName → LinesByName → (List ℕ → Bool) → AclLine → Type 0
+KeepsMore old new named line = (n : List ℕ) (f : AclLine → ℕ) → sum_by f (lines_of new n) ≡ sum_by f (lines_of old n) + (if named n then f line else 0)
+
+-- the line is kept of each of these names
+abbrev pub KeepsLine : LinesByName → (List ℕ → Bool) → AclLine → Type 0
+KeepsLine kept named line = (n : List ℕ) (f : AclLine → ℕ) → (if named n then f line else 0) ≤ sum_by f (lines_of kept n)

@@ -1,16 +1,13 @@
 //! Access lists, and the lines that they hold.
-ghost use Rattle.std.specs.Prelude.{◌≡◌, ℕ, ◌+◌, ◌-◌, ◌^◌, ◌<◌, ◌≤◌, ◌↔◌, List, [], length, insert, remove, position, OnOk, OnErr, IfOk, IfSome, IsErrOf, is_some};
+ghost use Rattle.std.specs.Prelude.{◌≡◌, ℕ, ◌+◌, ◌-◌, ◌^◌, ◌<◌, ◌≤◌, ◌↔◌, List, [], length, insert, remove, OnOk, OnErr, IfOk, IfSome, IsErrOf, is_some};
 ghost use Rattle.std.specs.Option.{option_copied};
-ghost use Rattle.asa_ace.specs.Lines.{line_eq};
 ghost use Rattle.asa_acl.specs.Lists as spec;
-ghost use Rattle.asa_acl.specs.Marks as marks;
-ghost use Rattle.asa_acl.specs.Uses as uses;
 
-use crate::counting::NameCounts;
-use crate::marking::mark_of;
+use crate::holding::{HeldLine, place_of_equal, share_lines};
+use crate::using::NameLines;
 use asa_ace::AclLine;
 use asa_base::Name;
-use asa_text::Shared;
+use asa_text::Items;
 use std::alloc::{AllocError, Global};
 use std::marker::Model;
 
@@ -37,90 +34,25 @@ impl From<AllocError> for AclFault {
     }
 }
 
-/// A line as a list holds it: copies of the list share it. Its fingerprint stands beside it, so that a search for an
-/// equal line seldom reads another one.
-#[derive(Debug, Drop)]
-pub struct HeldLine {
-    mark: u64,
-    line: Shared<AclLine>,
-}
-
-impl Model for HeldLine {
-    ghost use Rattle.std.specs.Prelude.{◌≡◌};
-    ghost use Rattle.asa_ace.specs.declared.stating.AclLine.{AclLine};
-    ghost use Rattle.asa_acl.specs.Marks.{mark_of};
-
-    ghost Value = { AclLine };
-
-    ghost view = { λ h. h.line };
-
-    ghost invariant = { λ h. h.mark ≡ mark_of h.line };
-}
-
-impl HeldLine {
-    fn new(alloc: Global, line: AclLine) -> Result<HeldLine, AllocError>
-        ensures { IfOk result (λ h. h ≡ line) }
-    {
-        let mark = mark_of(&line);
-        let line = Shared::new(alloc, line)?;
-        Ok(HeldLine { mark, line })
-    }
-
-    /// One more holder of the same line. It fails only where the count of holders is full.
-    fn share(&self) -> Result<HeldLine, AllocError>
-        ensures { IfOk result (λ h. h ≡ self.now) }
-    {
-        let line = self.line.share()?;
-        Ok(HeldLine {
-            mark: self.mark,
-            line,
-        })
-    }
-
-    /// The line.
-    pub fn line(&self) -> &AclLine
-        ensures { result.now ≡ self.now }
-    {
-        self.line.get()
-    }
-
-    /// Whether the line is equal to this one, of which `mark` is the fingerprint.
-    fn holds(&self, mark: u64, item: &AclLine) -> bool
-        requires { mark ≡ marks.mark_of item.now }
-        ensures { result ≡ line_eq item.now self.now }
-    {
-        self.mark == mark && item.is_same(self.line())
-    }
-}
-
 /// An access list: its name and at most 65,536 lines in order, numbered from 1.
 #[derive(Debug, Drop)]
 pub struct Acl {
     name: Name,
     lines: Vec<HeldLine>,
-    uses: NameCounts,
+    uses: NameLines,
     alloc: Global,
 }
 
 impl Model for Acl {
     ghost use Rattle.std.specs.Prelude.{◌≡◌, ℕ, ◌≤◌, List, length};
-    ghost use Rattle.asa_acl.specs.Lists.{AccessLines};
-    ghost use Rattle.asa_acl.specs.Uses.{count_of, lines_count};
+    ghost use Rattle.asa_acl.specs.Lists.{AccessLines, AreUsing};
+    ghost use Rattle.asa_acl.specs.Uses.{lines_of};
 
     ghost Value = { AccessLines };
 
     ghost view = { λ a. record { name = a.name; lines = a.lines.items } };
 
-    ghost invariant = { λ a. (length a.lines.items ≤ 65536) × ((n : List ℕ) → count_of a.uses n ≡ lines_count n a.lines.items) };
-}
-
-/// The place, from 0, of the first line that is equal to this one.
-fn place_of_equal(lines: &[HeldLine], item: &AclLine) -> Option<usize>
-    ensures value { result ≡ spec.place_of_equal item.now lines.now }
-    ensures within { IfSome result (λ i. i < length lines.now) }
-{
-    let mark = mark_of(item);
-    lines.iter().position(|held| held.holds(mark, item))
+    ghost invariant = { λ a. (length a.lines.items ≤ 65536) × ((n : List ℕ) → AreUsing (lines_of a.uses n) n a.lines.items) };
 }
 
 /// How many of the present lines, of which there are `len`, stand before a new one.
@@ -135,17 +67,6 @@ fn lines_before(line: Option<u32>, len: usize) -> usize
     }
 }
 
-/// The same lines, held once more.
-fn share_lines(alloc: Global, lines: &[HeldLine]) -> Result<Vec<HeldLine>, AllocError>
-    ensures { IfOk result (λ v. v.items ≡ lines.now) }
-{
-    let mut shared = Vec::with_capacity(alloc, lines.len())?;
-    for held in lines {
-        shared.push(held.share()?)?;
-    }
-    Ok(shared)
-}
-
 impl Acl {
     /// A list without a line; takes no memory.
     pub fn new(alloc: Global, name: Name) -> Acl
@@ -154,7 +75,7 @@ impl Acl {
         Acl {
             name,
             lines: Vec::new(alloc),
-            uses: NameCounts::new(alloc),
+            uses: NameLines::new(alloc),
             alloc,
         }
     }
@@ -180,17 +101,6 @@ impl Acl {
         ensures few { result ≤ 65536 }
     {
         self.lines.len() as u32
-    }
-
-    /// Line n, counted from 1, or None exactly where there is none.
-    pub fn get(&self, line: u32) -> Option<&AclLine>
-        ensures { option_copied result ≡ spec.line_at line self.now.lines }
-    {
-        if line == 0 {
-            return None;
-        }
-        let held = self.lines.get((line - 1) as usize)?;
-        Some(held.line())
     }
 
     /// Puts a line before the present line n; without n, and past the end, it goes last. After a refusal the list is as
@@ -219,7 +129,7 @@ impl Acl {
         ensures err { OnErr result (self.new ≡ self.old) }
     {
         self.lines.reserve(1)?;
-        self.uses.add_line(held.line())?;
+        self.uses.add_line(&held)?;
         match self.lines.insert(place, held) {
             Ok(()) => Ok(()),
             Err(_) => unreachable!(),
@@ -246,7 +156,7 @@ impl Acl {
             return false;
         };
         let held = self.lines.remove(place);
-        self.uses.take_line(held.line());
+        self.uses.take_line(&held);
         true
     }
 
@@ -255,7 +165,15 @@ impl Acl {
     pub fn uses(&self, name: &Name) -> bool
         ensures { result ≡ spec.list_uses name.now self.now }
     {
-        self.uses.count_of(name) > 0
+        !self.uses.lines_of(name).is_empty()
+    }
+
+    /// The lines that use the object or group of this name, each once, in no certain order; reads no other line.
+    pub fn lines_using(&self, name: &Name) -> Result<Items<HeldLine>, AllocError>
+        ensures { IfOk result (λ ls. spec.AreUsing ls name.now self.now.lines) }
+    {
+        let lines = share_lines(self.alloc, self.uses.lines_of(name))?;
+        Ok(Items::from(lines))
     }
 
     /// A copy, which shares the lines.

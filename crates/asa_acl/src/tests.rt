@@ -48,9 +48,11 @@ fn a_line_goes_before_the_line_with_its_number(rt: HostRuntime) -> Result<(), Fa
     assert_eq!(rt; number_of(&list, 30), Some(3));
     assert_eq!(rt; number_of(&list, 20), Some(4));
     assert_eq!(rt; number_of(&list, 40), Some(5));
-    assert!(rt; list.get(1).is_some_and(|l| matches!(l, AclLine::Remark(_))));
-    assert!(rt; list.get(0).is_none());
-    assert!(rt; list.get(6).is_none());
+    assert!(rt;
+        list.lines()
+            .first()
+            .is_some_and(|held| matches!(held.line(), AclLine::Remark(_)))
+    );
     assert_eq!(rt; list.name().bytes(), b"OUT".as_slice());
     Ok(())
 }
@@ -85,6 +87,77 @@ fn a_name_is_used_while_a_line_has_it(rt: HostRuntime) -> Result<(), Fail> {
     assert!(rt; list.uses(&group));
     assert!(rt; list.remove_equal(&permit(AddrRef::Named(name(b"LAN")?))));
     assert!(rt; !list.uses(&group));
+    Ok(())
+}
+
+/// An entry that permits every protocol from one object or group to another.
+fn between(source: &[u8], dest: &[u8]) -> Result<AclLine, Fail> {
+    Ok(AclLine::Ace(Ace {
+        permit: true,
+        active: true,
+        service: ServiceRef::Plain(Service::any()),
+        source: AddrRef::Named(name(source)?),
+        dest: AddrRef::Named(name(dest)?),
+    }))
+}
+
+/// Puts such an entry last.
+fn put_last(list: &mut Acl, source: &[u8], dest: &[u8]) -> Result<(), Fail> {
+    let line = between(source, dest)?;
+    list.insert(None, line).map_err(|_| "no room")?;
+    Ok(())
+}
+
+/// Removes such an entry, and answers whether there was one.
+fn take(list: &mut Acl, source: &[u8], dest: &[u8]) -> Result<bool, Fail> {
+    let line = between(source, dest)?;
+    Ok(list.remove_equal(&line))
+}
+
+/// How many lines use the object or group.
+fn users(list: &Acl, text: &[u8]) -> Result<usize, Fail> {
+    let name = name(text)?;
+    let lines = list.lines_using(&name)?;
+    Ok(lines.len())
+}
+
+/// A list with two equal lines, and between them one that shares a name with them.
+fn mixed(alloc: Global) -> Result<Acl, Fail> {
+    let mut list = Acl::new(alloc, name(b"OUT")?);
+    put_last(&mut list, b"LAN", b"DMZ")?;
+    put_last(&mut list, b"LAN", b"DMZ")?;
+    let line = between(b"WAN", b"LAN")?;
+    list.insert(Some(2), line).map_err(|_| "no room")?;
+    Ok(list)
+}
+
+#[test]
+fn a_line_that_names_an_object_twice_is_given_once(rt: HostRuntime) -> Result<(), Fail> {
+    let mut list = Acl::new(rt.alloc(), name(b"OUT")?);
+    put_last(&mut list, b"LAN", b"LAN")?;
+    assert_eq!(rt; users(&list, b"LAN")?, 1);
+    assert!(rt; take(&mut list, b"LAN", b"LAN")?);
+    assert_eq!(rt; users(&list, b"LAN")?, 0);
+    Ok(())
+}
+
+#[test]
+fn lines_are_given_by_the_names_that_they_use(rt: HostRuntime) -> Result<(), Fail> {
+    let mut list = mixed(rt.alloc())?;
+    assert_eq!(rt; users(&list, b"LAN")?, 3);
+    assert!(rt; take(&mut list, b"LAN", b"DMZ")?);
+    assert_eq!(rt; users(&list, b"LAN")?, 2);
+    assert_eq!(rt; users(&list, b"DMZ")?, 1);
+    Ok(())
+}
+
+#[test]
+fn a_copy_keeps_the_lines_of_its_names(rt: HostRuntime) -> Result<(), Fail> {
+    let mut list = mixed(rt.alloc())?;
+    let copy = list.copy()?;
+    assert!(rt; take(&mut list, b"WAN", b"LAN")?);
+    assert_eq!(rt; users(&list, b"WAN")?, 0);
+    assert_eq!(rt; users(&copy, b"WAN")?, 1);
     Ok(())
 }
 

@@ -9,4 +9,5 @@ pub mod ReadLaws
 pub mod BindingLaws
 pub mod TakenLaws
 pub mod RecountLaws
+pub mod UsingLaws
 pub mod PutLaws

@@ -128,12 +128,17 @@ map_more : (f : AccessLines → ℕ) (ls : List AccessLines) (l : AccessLines) �
 map_more f [] l = refl
 map_more f (x ∷ xs) l = ap (λ ns. f x ∷ ns) (map_more f xs l)
 
+-- what is counted of one more list
+pub mapped_more : (f : AccessLines → ℕ) (ts : List Counted) (i n : ℕ) (k : Counted) (es fs : List ℕ) → Some k ≡ slice_get ts i → es ≡ map f (take i (lists_in ts))
+    → n ≡ f k.list → fs ≡ es ++ n ∷ [] → fs ≡ map f (take (i + 1) (lists_in ts))
+mapped_more f ts i n k es fs found before told made =
+    made ∙ ap (λ x. x ++ n ∷ []) before ∙ ap (λ x. map f (take i (lists_in ts)) ++ x ∷ []) told
+    ∙ sym (map_more f (take i (lists_in ts)) k.list) ∙ ap (map f) (sym (take_lists ts i k found))
+
 -- one more list is counted
 pub each_more : (m : Meanings) (ts : List Counted) (i n : ℕ) (k : Counted) (es fs : List ℕ) → Some k ≡ slice_get ts i → es ≡ map (λ x. list_pairs m x.lines) (take i (lists_in ts))
     → n ≡ list_pairs m k.list.lines → fs ≡ es ++ n ∷ [] → fs ≡ map (λ x. list_pairs m x.lines) (take (i + 1) (lists_in ts))
-each_more m ts i n k es fs found before told made =
-    made ∙ ap (λ x. x ++ n ∷ []) before ∙ ap (λ x. map (λ x. list_pairs m x.lines) (take i (lists_in ts)) ++ x ∷ []) told
-    ∙ sym (map_more (λ x. list_pairs m x.lines) (take i (lists_in ts)) k.list) ∙ ap (map (λ x. list_pairs m x.lines)) (sym (take_lists ts i k found))
+each_more m = mapped_more (λ x. list_pairs m x.lines)
 
 pub total_more : (m : Meanings) (ts : List Counted) (i n total : ℕ) (k : Counted) → Some k ≡ slice_get ts i → total ≡ pairs_of_lists m (take i (lists_in ts))
     → n ≡ list_pairs m k.list.lines → total + n ≡ pairs_of_lists m (take (i + 1) (lists_in ts))
@@ -143,3 +148,15 @@ total_more m ts i n total k found before told =
 
 pub length_values : (es : Entries) → length (values es) ≡ length es
 length_values es = length-map es (λ e. e.1)
+
+-- what is counted of the i-th list
+pub mapped_at : (f : AccessLines → ℕ) (ts : List Counted) (i n : ℕ) (k : Counted) → Some k ≡ slice_get ts i → n ≡ get_or (map f (lists_in ts)) i n → n ≡ f k.list
+mapped_at f [] i n k found told = absurd (cc)
+mapped_at f (t ∷ ts) zero n k found told = let this : k ≡ t = cc in told ∙ ap (λ x. f x.list) (sym this)
+mapped_at f (t ∷ ts) (suc i) n k found told = mapped_at f ts i n k found told
+
+-- the pairs that are kept of the i-th list
+pub counted_at : (m : Meanings) (ts : List Counted) (i : ℕ) (k : Counted) → AreCounted m ts → Some k ≡ slice_get ts i → k.pairs ≡ list_pairs m k.list.lines
+counted_at m [] i k counted found = absurd (cc)
+counted_at m (t ∷ ts) zero k counted found = let this : k ≡ t = cc in subst (λ x. x.pairs ≡ list_pairs m x.list.lines) (sym this) counted.0
+counted_at m (t ∷ ts) (suc i) k counted found = counted_at m ts i k counted.1 found

@@ -92,7 +92,7 @@ entry_same old new is a same =
     ∙ ap (λ rs. if a.active then prefix_count (ranges_of (meanings_in old is) a.source) * prefix_count rs * length (services_of (meanings_in new is) a.service) else 0) dests
     ∙ ap (λ ss. if a.active then prefix_count (ranges_of (meanings_in old is) a.source) * prefix_count (ranges_of (meanings_in old is) a.dest) * length ss else 0) services
 
-line_same : (old new : Table) (is : List Iface) (l : AclLine) → ((q : List ℕ) → line_uses q l ≡ true → keeping.IsKept old new q) → line_pairs (meanings_in new is) l ≡ line_pairs (meanings_in old is) l
+pub line_same : (old new : Table) (is : List Iface) (l : AclLine) → ((q : List ℕ) → line_uses q l ≡ true → keeping.IsKept old new q) → line_pairs (meanings_in new is) l ≡ line_pairs (meanings_in old is) l
 unfolding line_pairs line_uses
 line_same old new is (line.Ace a) same = entry_same old new is a same
 line_same old new is (line.Remark text) same = refl

@@ -5,6 +5,7 @@ pub mod Classes
 pub mod Counted
 pub mod Grammar
 pub mod Fitting
+pub mod Using
 pub mod Net
 pub mod Objects
 pub mod Groups

@@ -1,5 +1,5 @@
 -- Blocks of objects and groups, and the lines that remove one.
-use Rattle.std.specs.Prelude.{◌≡◌, ℕ, true, List, Option, Some, None, find, Result, Ok, Err}
+use Rattle.std.specs.Prelude.{◌≡◌, ℕ, ◌<◌, ◌≤◌, true, List, Option, Some, None, find, Result, Ok, Err}
 use Rattle.std.specs.Option.{option_map}
 use Rattle.asa_text.specs.declared.grouping.Block.{Block}
 use Rattle.asa_acl.specs.Lists.{AccessLines, list_uses}
@@ -9,12 +9,12 @@ use Rattle.asa_objects.specs.declared.faults.ObjectFault.TheVariants as object
 use Rattle.asa_objects.specs.Defining.{defined}
 use Rattle.asa_objects.specs.Keeping.{ForName}
 use Rattle.asa_objects.specs.Tables.{Table, user_of, without_name, reaches}
-use Rattle.asa_config.specs.declared.refusing.EditFault.TheVariants.{Bad, Unsupported, Unknown, NameTaken, NoSuchLine, InUse, Cycle, TooMany, NotBuilt}
+use Rattle.asa_config.specs.declared.refusing.EditFault.TheVariants.{Bad, Unsupported, Unknown, NameTaken, NoSuchLine, InUse, Cycle, TooMany, TooLarge, NotBuilt}
 use Rattle.asa_config.specs.declared.refusing.EditRefusal.{EditRefusal}
 use Rattle.asa_config.specs.declared.refusing.EditRefusal.TheVariants.{At, NoMemory}
 use Rattle.asa_config.specs.Settings.{Settings}
 use Rattle.asa_config.specs.Knowing.{known_of}
-use Rattle.asa_config.specs.Fitting.{fitting}
+use Rattle.asa_config.specs.Fitting.{capped, fitting}
 use Rattle.asa_config.specs.Judging.{Judged, ◌>>=◌, refused, top_read, alone}
 
 -- the refusal of a block for a fault of its object or group
@@ -52,6 +52,12 @@ unfoldable pub object_step : Settings → Block → Judged Settings
 object_step c b = do
   objects ← of_objects (defined c.objects b)
   changed c objects
+
+-- what a new count of the lists answers, which have so many pairs
+abbrev pub Recounts : {X : Type 0} → Result X EditRefusal → ℕ → Type 0
+Recounts (Ok _) n = n ≤ 262144
+Recounts (Err NoMemory) n = Unit {0}
+Recounts (Err (At line fault)) n = (262144 < n) × (At line fault ≡ At 1 (TooLarge (capped n)))
 
 -- the first list with a line that names the object or group
 abbrev pub list_using : List AccessLines → List ℕ → Option (List ℕ)

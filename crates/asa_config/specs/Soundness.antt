@@ -8,8 +8,8 @@ use Rattle.asa_objects.specs.Tables.{Table}
 use Rattle.asa_config.specs.Counted.{Counted, lists_in}
 use Rattle.asa_ace.specs.declared.stating.AclLine.{AclLine}
 use Rattle.asa_acl.specs.Lists.{AccessLines, without_equal}
-use Rattle.asa_config.specs.Settings.{Settings, list_among}
-use Rattle.asa_config.specs.Knowing.{pair_count, meanings_in, pairs_of_lists}
+use Rattle.asa_config.specs.Settings.{list_among}
+use Rattle.asa_config.specs.Knowing.{meanings_in, pairs_of_lists}
 use Rattle.asa_config.specs.declared.fitting.Counts.{Counts}
 
 -- each binding is that of one of n interfaces
@@ -24,14 +24,6 @@ all_defined lists bound = list_all (λ b. is_some (list_among lists b.1)) bound
 abbrev pub is_global_defined : List AccessLines → Option (List ℕ) → Bool
 is_global_defined lists None = true
 is_global_defined lists (Some name) = is_some (list_among lists name)
-
--- the limits hold, and what a binding names is there
-pub record IsSound (c : Settings) : Type 0 where
-  pub few_lists : length c.lists ≤ 1024
-  pub few_pairs : pair_count c ≤ 262144
-  pub within : all_within (length c.net.ifaces) c.bound ≡ true
-  pub defined : all_defined c.lists c.bound ≡ true
-  pub global_defined : is_global_defined c.lists c.global ≡ true
 
 -- the pairs that are kept beside each list are its own
 abbrev pub AreCounted : Meanings → List Counted → Type 0

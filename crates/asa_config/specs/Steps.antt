@@ -22,22 +22,22 @@ removal_step c b left =
     else (if begins_object left then no_object_step c b
     else refused 1 NotBuilt))))
 
--- every other block, by its first word
-unfoldable pub command_step : Settings → Block → Bool → Left → Judged Settings
-command_step c b startup left =
+-- a block that begins neither with `no` nor an object or a group, by its first word
+unfoldable pub other_step : Settings → Block → Bool → Left → Judged Settings
+other_step c b startup left =
     if next_is (codes "interface") left then interface_step c b startup
     else (if next_is (codes "access-list") left then line_step c b
     else (if next_is (codes "access-group") left then group_step c b
     else (if next_is (codes "same-security-traffic") left then permits_step c b
     else (if next_is (codes "route") left then route_step c b
     else (if next_is (codes "timeout") left then timeout_step c b
-    else (if begins_object left then object_step c b
-    else refused 1 NotBuilt))))))
+    else refused 1 NotBuilt)))))
 
 -- a block of this profile
 unfoldable pub taken_step : Settings → Block → Bool → Left → Judged Settings
 taken_step c b startup left =
-    if next_is (codes "no") left then removal_step c b (after_one left) else command_step c b startup left
+    if next_is (codes "no") left then removal_step c b (after_one left)
+    else (if begins_object left then object_step c b else other_step c b startup left)
 
 -- the next configuration, or the refusal with its line in the block; `startup` tells that the block stands before `: end`.
 -- A block that is passed over changes nothing.

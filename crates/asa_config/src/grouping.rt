@@ -1,25 +1,31 @@
 //! Blocks of objects and groups, and the lines that remove one.
-ghost use Rattle.std.specs.Prelude.{◌≡◌, ◌≤◌, true, None, Ok, IfOk, OnOk, is_some};
+ghost use Rattle.std.specs.Prelude.{◌≡◌, ℕ, List, false, None, Ok, IfOk, OnOk, is_some, map};
 ghost use Rattle.std.specs.List.{list_any};
 ghost use Rattle.std.specs.Option.{option_copied};
 ghost use Rattle.asa_members.specs.Tops.{removal_at};
-ghost use Rattle.asa_objects.specs.Defining.{defined};
-ghost use Rattle.asa_objects.specs.Tables.{user_of, without_name};
+ghost use Rattle.asa_objects.specs.Keeping.{ForName};
+ghost use Rattle.asa_objects.specs.Ranks.{has_name};
+ghost use Rattle.asa_objects.specs.Tables.{reaches, user_of, without_name};
+ghost use Rattle.asa_config.specs.Counted.{lists_in};
 ghost use Rattle.asa_config.specs.Judging.{Gives, Makes, top_read};
-ghost use Rattle.asa_config.specs.Knowing.{known_of, meanings_in, pair_count};
-ghost use Rattle.asa_config.specs.Soundness.{AreCounts};
+ghost use Rattle.asa_config.specs.Knowing.{known_of, meanings_in, meanings_of, pairs_of_lists};
+ghost use Rattle.asa_config.specs.Soundness.{AreCounted};
 ghost use Rattle.asa_config.specs.Objects as spec;
+ghost use Rattle.asa_config.specs.Using.{rest_pairs};
 
 use crate::configuring::Config;
-use crate::fitting::{Counts, MOST_PAIRS, count_lists, too_large};
+use crate::fitting::{MOST_PAIRS, too_large};
 use crate::judging::{alone, line_refusal, refused, top_words};
 use crate::refusing::{EditFault, EditRefusal};
 use crate::scoping::Scope;
+use crate::tabling::ListTable;
+use crate::using::{counts_with, rest_of_lists};
 use asa_base::Name;
+use asa_ifaces::Ifaces;
 use asa_members::{Removal, read_removal};
 use asa_objects::{ObjectFault, Objects};
 use asa_text::Block;
-use std::alloc::AllocError;
+use std::alloc::{AllocError, Global};
 
 /// The refusal of a block for a fault of its object or group.
 fn object_refusal(fault: ObjectFault) -> EditRefusal
@@ -72,6 +78,32 @@ fn free_of(user: Option<Name>) -> Result<(), EditRefusal>
     }
 }
 
+/// The lists with their pairs under other objects and groups, as far as they stay few.
+fn recounted(
+    alloc: Global,
+    objects: &Objects,
+    net: &Ifaces,
+    mut table: ListTable,
+    names: &[Name],
+    rests: &[u128],
+) -> Result<ListTable, EditRefusal>
+    requires { rests.now ≡ map (λ l. rest_pairs (meanings_in objects.now net.now.ifaces) names.now l.lines) (lists_in table) }
+    ensures lists { IfOk result (λ t. lists_in t ≡ lists_in table) }
+    ensures counted { IfOk result (λ t. AreCounted (meanings_in objects.now net.now.ifaces) t) }
+    ensures answer { spec.Recounts result (pairs_of_lists (meanings_in objects.now net.now.ifaces) (lists_in table)) }
+{
+    let scope = Scope {
+        objects,
+        ifaces: net.ifaces(),
+    };
+    let counts = counts_with(alloc, &scope, &table, names, rests)?;
+    if counts.total > MOST_PAIRS {
+        return Err(too_large(counts.total));
+    }
+    table.recount(counts.each.as_slice());
+    Ok(table)
+}
+
 impl Config {
     /// The name of the first list with a line that names the object or group.
     fn list_using(&self, name: &Name) -> Option<Name>
@@ -93,50 +125,6 @@ impl Config {
         free_of(self.list_using(name))
     }
 
-    /// The pairs of all lists under other objects and groups.
-    fn count_with(&self, objects: &Objects) -> Result<Counts, AllocError>
-        ensures value { IfOk result (λ n. AreCounts (meanings_in objects.now self.now.net.ifaces) self.now.lists n) }
-        ensures total { IfOk result (λ n. n.total ≡ pair_count (spec.with_objects self.now objects.now)) }
-    {
-        let scope = Scope {
-            objects,
-            ifaces: self.net.ifaces(),
-        };
-        count_lists(self.alloc, &scope, &self.table)
-    }
-
-    /// Puts other objects and groups, under which the pairs of all lists are counted.
-    fn put_objects(&mut self, objects: Objects, counts: &Counts)
-        requires told { AreCounts (meanings_in objects self.old.net.ifaces) self.old.lists counts.now }
-        requires few { counts.now.total ≤ 262144 }
-        ensures { self.new ≡ spec.with_objects self.old objects }
-    {
-        self.table.recount(counts.each.as_slice());
-        self.objects = objects;
-    }
-
-    /// Takes other objects and groups, under which the pairs of all lists are counted anew, as far as they stay few.
-    #[tactic(auto, unfolding(crate::specs::Fitting::fitting))]
-    fn change_objects(&mut self, objects: Objects) -> Result<(), EditRefusal>
-        ensures { Makes result self.old self.new (spec.changed self.old objects) }
-    {
-        let counts = self.count_with(&objects)?;
-        if counts.total > MOST_PAIRS {
-            return Err(too_large(counts.total));
-        }
-        self.put_objects(objects, &counts);
-        Ok(())
-    }
-
-    /// The objects and groups after a block of one.
-    fn objects_after(&self, block: &Block) -> Result<Objects, EditRefusal>
-        ensures { Gives result (spec.of_objects (defined self.now.objects block.now)) }
-    {
-        let mut objects = self.objects.copy()?;
-        told(objects.define(block))?;
-        Ok(objects)
-    }
-
     /// Whether some list names one of these objects and groups.
     fn lists_name(&self, names: &[Name]) -> bool
         ensures { result ≡ list_any (λ q. is_some (spec.list_using self.now.lists q)) names.now }
@@ -144,35 +132,61 @@ impl Config {
         names.iter().any(|name| self.list_using(name).is_some())
     }
 
-    /// Whether no list names what a block defines, or a group that leads to it.
-    fn is_apart(&self, block: &Block) -> Result<bool, AllocError>
-        ensures { IfOk result (λ apart. apart ≡ true → spec.IsApart self.now block.now) }
-    {
-        let names = self.objects.reaching(self.alloc, block)?;
-        Ok(!self.lists_name(names.as_slice()))
-    }
-
-    /// Takes a block of an object or a group that no list names, so that no pair is to be counted and the table is changed
-    /// in its place.
-    fn define_apart(&mut self, block: &Block) -> Result<(), EditRefusal>
-        requires { spec.IsApart self.old block.now }
-        ensures { Makes result self.old self.new (spec.object_step self.old block.now) }
+    /// Takes a block of an object or a group that no list names, so that no pair is to be counted.
+    fn define_apart(mut self, block: &Block, names: &[Name]) -> Result<Config, EditRefusal>
+        requires reaching { ForName block.now (λ name. (q : List ℕ) → has_name names.now q ≡ reaches self.objects q name) }
+        requires none { list_any (λ q. is_some (spec.list_using self.lists q)) names.now ≡ false }
+        ensures { Gives result (spec.object_step self block.now) }
     {
         // That there are few pairs, which stay as they are.
         let _pairs = self.pair_count();
-        told(self.objects.define(block))
+        told(self.objects.define(block))?;
+        Ok(self)
+    }
+
+    /// The pairs of the lines of each list that use none of these objects and groups.
+    fn rest_of(&self, names: &[Name]) -> Result<Vec<u128>, AllocError>
+        ensures { IfOk result (λ v. v.items ≡ map (λ l. rest_pairs (meanings_of self.now) names.now l.lines) self.now.lists) }
+    {
+        rest_of_lists(self.alloc, &self.scope(), &self.table, names)
+    }
+
+    /// Takes a block of an object or a group that lists name: the lines that use it, or a group that leads to it, are
+    /// counted anew.
+    fn define_used(self, block: &Block, names: &[Name]) -> Result<Config, EditRefusal>
+        requires { ForName block.now (λ name. (q : List ℕ) → has_name names.now q ≡ reaches self.objects q name) }
+        ensures { Gives result (spec.object_step self block.now) }
+    {
+        let rests = self.rest_of(names)?;
+        let Config {
+            net,
+            mut objects,
+            table,
+            bound,
+            global,
+            alloc,
+        } = self;
+        told(objects.define(block))?;
+        let table = recounted(alloc, &objects, &net, table, names, rests.as_slice())?;
+        Ok(Config {
+            net,
+            objects,
+            table,
+            bound,
+            global,
+            alloc,
+        })
     }
 
     /// Takes a block of an object or a group.
-    #[tactic(auto, unfolding(crate::specs::Objects::object_step))]
-    pub(crate) fn step_object(&mut self, block: &Block) -> Result<(), EditRefusal>
-        ensures { Makes result self.old self.new (spec.object_step self.old block.now) }
+    pub(crate) fn step_object(self, block: &Block) -> Result<Config, EditRefusal>
+        ensures { Gives result (spec.object_step self block.now) }
     {
-        if self.is_apart(block)? {
-            return self.define_apart(block);
+        let names = self.objects.reaching(self.alloc, block)?;
+        if self.lists_name(names.as_slice()) {
+            return self.define_used(block, names.as_slice());
         }
-        let objects = self.objects_after(block)?;
-        self.change_objects(objects)
+        self.define_apart(block, names.as_slice())
     }
 
     /// Takes out an object or a group that nothing names.

@@ -19,6 +19,7 @@ mod stepping;
 mod tabling;
 #[cfg(test)]
 mod tests;
+mod using;
 
 pub use asa_ifaces::{Iface, Ifaces, RouteLine, Timeouts};
 pub use asa_objects::Objects;

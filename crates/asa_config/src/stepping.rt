@@ -34,15 +34,15 @@ impl Config {
         Err(refused(1, EditFault::NotBuilt))
     }
 
-    /// Takes a block whose first word isn't `no`.
-    #[tactic(auto, unfolding(crate::specs::Steps::command_step))]
-    fn step_command(
+    /// Takes a block whose first word is neither `no` nor that of an object or a group.
+    #[tactic(auto, unfolding(crate::specs::Steps::other_step))]
+    fn step_other(
         &mut self,
         block: &Block,
         startup: bool,
         words: &Words<'_>,
     ) -> Result<(), EditRefusal>
-        ensures { Makes result self.old self.new (spec.command_step self.old block.now startup words.now) }
+        ensures { Makes result self.old self.new (spec.other_step self.old block.now startup words.now) }
     {
         if words.next_is(b"interface") {
             return self.step_interface(block, startup);
@@ -62,36 +62,38 @@ impl Config {
         if words.next_is(b"timeout") {
             return self.step_timeout(block);
         }
-        if begins_object(words) {
-            return self.step_object(block);
-        }
         Err(refused(1, EditFault::NotBuilt))
     }
 
     /// Takes a block of this profile.
     #[tactic(auto, unfolding(crate::specs::Steps::taken_step))]
     fn step_taken(
-        &mut self,
+        mut self,
         block: &Block,
         startup: bool,
         words: &Words<'_>,
-    ) -> Result<(), EditRefusal>
-        ensures { Makes result self.old self.new (spec.taken_step self.old block.now startup words.now) }
+    ) -> Result<Config, EditRefusal>
+        ensures { Gives result (spec.taken_step self block.now startup words.now) }
     {
         if words.next_is(b"no") {
-            return self.step_removal(block, &after_one(words));
+            self.step_removal(block, &after_one(words))?;
+            return Ok(self);
         }
-        self.step_command(block, startup, words)
+        if begins_object(words) {
+            return self.step_object(block);
+        }
+        self.step_other(block, startup, words)?;
+        Ok(self)
     }
 
-    /// Takes a block, as a whole or not at all; `startup` tells that it stands before `: end`. A block that is passed over
-    /// changes nothing. After a refusal, and where memory runs out, the configuration is as it was.
+    /// The configuration after a block, taken as a whole or not at all; `startup` tells that it stands before `: end`. A
+    /// block that is passed over changes nothing. A refusal gives no configuration; `edit` keeps the one before.
     #[tactic(auto, unfolding(crate::specs::Steps::step))]
-    pub fn step(&mut self, block: &Block, startup: bool) -> Result<(), EditRefusal>
-        ensures { Makes result self.old self.new (spec.step self.old block.now startup) }
+    pub fn step(self, block: &Block, startup: bool) -> Result<Config, EditRefusal>
+        ensures { Gives result (spec.step self block.now startup) }
     {
         if is_passed(block) {
-            return Ok(());
+            return Ok(self);
         }
         self.step_taken(block, startup, &top_words(block))
     }
@@ -101,8 +103,7 @@ impl Config {
     pub fn edit(&self, block: &Block, startup: bool) -> Result<Config, EditRefusal>
         ensures { Gives result (spec.step self.now block.now startup) }
     {
-        let mut next = self.copy()?;
-        next.step(block, startup)?;
-        Ok(next)
+        let next = self.copy()?;
+        next.step(block, startup)
     }
 }

@@ -259,7 +259,7 @@ fn recount_at(lists: &mut IndexMap<Name, KeptList>, i: usize, pairs: u64)
 }
 
 /// The i-th of these numbers.
-fn count_at(counts: &[u128], i: usize) -> u128
+pub(crate) fn count_at(counts: &[u128], i: usize) -> u128
     requires { i < length counts.now }
     ensures { result ≡ get_or counts.now i result }
 {

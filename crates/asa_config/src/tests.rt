@@ -18,39 +18,37 @@ const BASE: &[u8] = b"interface GigabitEthernet0/0\n\
     \x20ip address 10.0.0.1 255.255.255.0\n\
     access-list L extended permit ip any any\n";
 
-/// Takes the blocks of a startup text.
-fn take(alloc: Global, config: &mut Config, text: &[u8]) -> Result<(), Fail>
+/// A configuration after the blocks of a startup text.
+fn taken(alloc: Global, config: Config, text: &[u8]) -> Result<Config, Fail>
     requires { length text.now < 2 ^ 31 }
 {
     let blocks = cut_blocks(alloc, text, 1)?.map_err(|_| "a line before the first block")?;
+    let mut config = config;
     for block in blocks.as_slice() {
-        config.step(block, true)?;
+        config = config.step(block, true)?;
     }
-    Ok(())
+    Ok(config)
 }
 
 /// Two interfaces, a list with one line, and the blocks of a startup text.
 fn configured(alloc: Global, text: &[u8]) -> Result<Config, Fail>
     requires { length text.now < 2 ^ 31 }
 {
-    let mut config = Config::empty(alloc);
-    take(alloc, &mut config, BASE)?;
-    take(alloc, &mut config, text)?;
-    Ok(config)
+    let config = taken(alloc, Config::empty(alloc), BASE)?;
+    taken(alloc, config, text)
 }
 
 /// What the last block of a text is answered, the others being taken.
 fn answer_to(alloc: Global, text: &[u8], startup: bool) -> Result<Result<(), EditRefusal>, Fail>
     requires { length text.now < 2 ^ 31 }
 {
-    let mut config = Config::empty(alloc);
-    take(alloc, &mut config, BASE)?;
+    let mut config = taken(alloc, Config::empty(alloc), BASE)?;
     let blocks = cut_blocks(alloc, text, 1)?.map_err(|_| "a line before the first block")?;
     let (last, others) = blocks.as_slice().split_last().ok_or("no block")?;
     for block in others {
-        config.step(block, true)?;
+        config = config.step(block, true)?;
     }
-    Ok(config.step(last, startup))
+    Ok(config.step(last, startup).map(|_| ()))
 }
 
 /// Asserts that the last block of a text is refused at a line of it.
@@ -468,8 +466,8 @@ const EIGHTEEN: &[u8] = b"access-list M permit tcp object W neq 1 object W neq 1
 fn a_value_is_refused_under_which_there_are_too_many_pairs(rt: HostRuntime) -> Result<(), Fail> {
     // A range from the second to the last but one address has 62 prefixes: 18 lines of 4 services have 276,768 pairs.
     let pairs = EditFault::TooLarge { pairs: 276_769 };
-    let mut config = configured(rt.alloc(), b"object network W\n host 10.0.0.9\n")?;
-    take(rt.alloc(), &mut config, EIGHTEEN)?;
+    let config = configured(rt.alloc(), b"object network W\n host 10.0.0.9\n")?;
+    let config = taken(rt.alloc(), config, EIGHTEEN)?;
     assert_eq!(rt; config.pair_count(), 73);
     let wide: &[u8] = b"object network W\n range 0.0.0.1 255.255.255.254\n";
     let blocks = cut_blocks(rt.alloc(), wide, 1)?.map_err(|_| "a line before the first block")?;
@@ -478,14 +476,43 @@ fn a_value_is_refused_under_which_there_are_too_many_pairs(rt: HostRuntime) -> R
         line: 1,
         fault: pairs,
     };
-    assert_eq!(rt; config.step(block, true), Err(refusal));
+    assert_eq!(rt; config.edit(block, true).map(|_| ()), Err(refusal));
     assert_eq!(rt; config.pair_count(), 73);
-    take(
+    let config = taken(
         rt.alloc(),
-        &mut config,
+        config,
         b"no access-list M permit tcp object W neq 1 object W neq 18\n",
     )?;
-    assert_eq!(rt; config.step(block, true), Ok(()));
+    let config = config.step(block, true)?;
     assert_eq!(rt; config.pair_count(), 261_393);
+    Ok(())
+}
+
+#[test]
+fn a_changed_name_counts_each_line_that_uses_it_once(rt: HostRuntime) -> Result<(), Fail> {
+    // The line of the base has one pair; so has each of the three lines while the object is one host.
+    let config = configured(
+        rt.alloc(),
+        b"object network A\n host 10.0.0.9\n\
+        object-group network G\n network-object object A\n\
+        access-list L permit ip object A object A\n\
+        access-list M permit ip object-group G object A\n\
+        access-list M permit ip any any\n",
+    )?;
+    assert_eq!(rt; config.pair_count(), 4);
+    // Two hosts that are no block: 4 pairs for the first line and 4 for the second.
+    let config = taken(
+        rt.alloc(),
+        config,
+        b"object network A\n range 10.0.0.1 10.0.0.2\n",
+    )?;
+    assert_eq!(rt; config.pair_count(), 10);
+    // A third member of the group: 6 pairs for the second line.
+    let config = taken(
+        rt.alloc(),
+        config,
+        b"object-group network G\n network-object host 10.0.0.4\n",
+    )?;
+    assert_eq!(rt; config.pair_count(), 12);
     Ok(())
 }

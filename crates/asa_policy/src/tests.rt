@@ -30,7 +30,7 @@ fn configure(alloc: Global, config: &mut Config, text: &[u8]) -> Result<(), Fail
 {
     let blocks = cut_blocks(alloc, text, 1)??;
     for block in blocks.as_slice() {
-        config.step(block, true)?;
+        config = config.step(block, true)?;
     }
     Ok(())
 }

@@ -32,7 +32,7 @@ fn session_of(rt: &impl Abort, alloc: Global, startup: &[u8]) -> Result<Session,
     let startup = cut_blocks(alloc, startup, 1)?.expect(rt, "the first line begins a block");
     let mut config = Config::empty(alloc);
     for block in startup.as_slice().iter().take(2) {
-        config.step(block, true)?;
+        config = config.step(block, true)?;
     }
     Ok(Session {
         startup,

@@ -1,7 +1,7 @@
 //! The startup part: which of its blocks are kept, and the configuration that they make.
 ghost use Rattle.std.specs.Prelude.{◌≡◌, IfOk};
 ghost use Rattle.asa_config.specs.Settings.{nothing};
-ghost use Rattle.asa_session.specs.Judging.{Judged, Leaves};
+ghost use Rattle.asa_session.specs.Judging.{Judged};
 ghost use Rattle.asa_session.specs.Starting as spec;
 
 use crate::scripting::{SessionError, SessionKind};
@@ -59,11 +59,11 @@ fn number_in_text(block: &Block, line: u32) -> u32
 
 /// Takes one more block.
 #[tactic(auto, unfolding(crate::specs::Starting::startup_step))]
-fn take_block(config: &mut Config, block: &Block) -> Result<(), SessionError>
-    ensures { Leaves result config.new (spec.startup_step config.old block.now) }
+fn take_block(config: Config, block: &Block) -> Result<Config, SessionError>
+    ensures { Judged result (spec.startup_step config block.now) }
 {
     match config.step(block, true) {
-        Ok(()) => Ok(()),
+        Ok(next) => Ok(next),
         Err(EditRefusal::At { line, fault }) => Err(SessionError::At {
             line: number_in_text(block, line),
             kind: SessionKind::Startup(fault),
@@ -78,7 +78,7 @@ pub(crate) fn startup_config(alloc: Global, blocks: &[Block]) -> Result<Config, 
 {
     let mut config = Config::empty(alloc);
     for block in blocks {
-        take_block(&mut config, block)?;
+        config = take_block(config, block)?;
     }
     Ok(config)
 }

@@ -1,0 +1,212 @@
+//! The prefix pairs of the lines that use one of some names, which are all that a change of these names counts anew.
+ghost use Rattle.std.specs.Prelude.{◌≡◌, ◌+◌, ℕ, List, IfOk, IfSome, filter, map};
+ghost use Rattle.std.specs.Option.{option_copied};
+ghost use Rattle.asa_acl.specs.Lists.{list_uses};
+ghost use Rattle.asa_boxes.specs.Pairs.{list_pairs};
+ghost use Rattle.asa_config.specs.Counted.{lists_in};
+ghost use Rattle.asa_config.specs.Knowing.{meanings_in};
+ghost use Rattle.asa_config.specs.Soundness.{AreCounted, AreCounts};
+ghost use Rattle.asa_config.specs.Using as spec;
+
+use crate::fitting::Counts;
+use crate::listing::KeptList;
+use crate::scoping::Scope;
+use crate::tabling::{ListTable, count_at};
+use asa_acl::{Ace, Acl, AclLine};
+use asa_base::Name;
+use asa_boxes::line_pairs;
+use std::alloc::{AllocError, Global};
+use std::collections::BTreeSet;
+
+/// Whether what stands at a place, if anything does, is one of the names.
+fn is_among(names: &BTreeSet<Name>, place: Option<&Name>) -> bool
+    ensures { result ≡ spec.is_among names.now.keys (option_copied place.entry) }
+{
+    match place {
+        Some(name) => names.contains(name),
+        None => false,
+    }
+}
+
+/// Whether an entry uses one of the names.
+#[tactic(auto, unfolding(crate::specs::Using::entry_uses))]
+fn entry_uses(names: &BTreeSet<Name>, ace: &Ace) -> bool
+    ensures { result ≡ spec.entry_uses names.now.keys ace.now }
+{
+    is_among(names, ace.service.name())
+        || is_among(names, ace.service.source_ports_name())
+        || is_among(names, ace.service.dest_ports_name())
+        || is_among(names, ace.source.name())
+        || is_among(names, ace.dest.name())
+}
+
+/// Whether a line uses one of the names.
+#[tactic(auto, unfolding(crate::specs::Using::uses_one))]
+fn uses_one(names: &BTreeSet<Name>, line: &AclLine) -> bool
+    ensures { result ≡ spec.uses_one names.now.keys line.now }
+{
+    match line {
+        AclLine::Ace(ace) => entry_uses(names, ace),
+        AclLine::Remark(_) => false,
+    }
+}
+
+/// Two numbers together. A sum that passes its type's end counts as want of memory.
+fn plus(a: u128, b: u128) -> Result<u128, AllocError>
+    ensures { IfOk result (λ n. n ≡ a + b) }
+{
+    match a.checked_add(b) {
+        Some(sum) => Ok(sum),
+        None => Err(AllocError),
+    }
+}
+
+/// The pairs of a line, unless it uses one of the names.
+fn line_rest(
+    alloc: Global,
+    scope: &Scope<'_>,
+    names: &BTreeSet<Name>,
+    line: &AclLine,
+) -> Result<u128, AllocError>
+    ensures { IfOk result (λ n. n ≡ spec.line_rest (meanings_in scope.now.objects.now scope.now.ifaces.now) names.now.keys line.now) }
+{
+    if uses_one(names, line) {
+        return Ok(0);
+    }
+    line_pairs(alloc, scope, line)
+}
+
+/// The pairs of the lines of a list that use a name and none of the names before it.
+fn further_pairs(
+    alloc: Global,
+    scope: &Scope<'_>,
+    acl: &Acl,
+    name: &Name,
+    earlier: &BTreeSet<Name>,
+) -> Result<u128, AllocError>
+    ensures { IfOk result (λ n. n ≡ spec.further_pairs (meanings_in scope.now.objects.now scope.now.ifaces.now) name.now earlier.now.keys acl.now.lines) }
+{
+    let lines = acl.lines_using(name)?;
+    let mut sum = 0;
+    for held in lines.as_slice() {
+        sum = plus(sum, line_rest(alloc, scope, earlier, held.line())?)?;
+    }
+    Ok(sum)
+}
+
+/// The pairs of the lines of a list that use one of the names.
+fn pairs_using(
+    alloc: Global,
+    scope: &Scope<'_>,
+    acl: &Acl,
+    names: &[Name],
+) -> Result<u128, AllocError>
+    ensures { IfOk result (λ n. n ≡ spec.used_pairs (meanings_in scope.now.objects.now scope.now.ifaces.now) names.now acl.now.lines) }
+{
+    let mut earlier = BTreeSet::new(alloc);
+    let mut sum = 0;
+    for name in names {
+        sum = plus(sum, further_pairs(alloc, scope, acl, name, &earlier)?)?;
+        earlier.insert(name.copy())?;
+    }
+    Ok(sum)
+}
+
+/// Those of the names that the lines of a list use.
+fn names_used(alloc: Global, acl: &Acl, names: &[Name]) -> Result<Vec<Name>, AllocError>
+    ensures { IfOk result (λ v. v.items ≡ filter (λ q. list_uses q acl.now) names.now) }
+{
+    let mut used = Vec::new(alloc);
+    for name in names {
+        if acl.uses(name) {
+            used.push(name.copy())?;
+        }
+    }
+    Ok(used)
+}
+
+/// The pairs of the lines of a list that use one of the names, of which most may be none that the list uses.
+fn used_pairs(
+    alloc: Global,
+    scope: &Scope<'_>,
+    acl: &Acl,
+    names: &[Name],
+) -> Result<u128, AllocError>
+    ensures { IfOk result (λ n. n ≡ spec.used_pairs (meanings_in scope.now.objects.now scope.now.ifaces.now) names.now acl.now.lines) }
+{
+    let used = names_used(alloc, acl, names)?;
+    pairs_using(alloc, scope, acl, used.as_slice())
+}
+
+/// The pairs of the lines of a list that use none of the names.
+fn rest_pairs(
+    alloc: Global,
+    scope: &Scope<'_>,
+    list: &KeptList,
+    names: &[Name],
+) -> Result<u128, AllocError>
+    requires { list.now.pairs ≡ list_pairs (meanings_in scope.now.objects.now scope.now.ifaces.now) list.now.list.lines }
+    ensures { IfOk result (λ n. n ≡ spec.rest_pairs (meanings_in scope.now.objects.now scope.now.ifaces.now) names.now list.now.list.lines) }
+{
+    let used = used_pairs(alloc, scope, list.acl(), names)?;
+    Ok(u128::from(list.pairs()) - used)
+}
+
+/// The pairs of the lines of each list that use none of the names.
+pub(crate) fn rest_of_lists(
+    alloc: Global,
+    scope: &Scope<'_>,
+    table: &ListTable,
+    names: &[Name],
+) -> Result<Vec<u128>, AllocError>
+    requires { AreCounted (meanings_in scope.now.objects.now scope.now.ifaces.now) table.now }
+    ensures { IfOk result (λ v. v.items ≡ map (λ l. spec.rest_pairs (meanings_in scope.now.objects.now scope.now.ifaces.now) names.now l.lines) (lists_in table.now)) }
+{
+    let mut rests = Vec::with_capacity(alloc, table.len())?;
+    for i in 0..table.len() {
+        let Some(list) = table.at(i) else {
+            unreachable!()
+        };
+        rests.push(rest_pairs(alloc, scope, list, names)?)?;
+    }
+    Ok(rests)
+}
+
+/// The pairs of a list, where the lines that use none of the names have so many.
+fn pairs_with(
+    alloc: Global,
+    scope: &Scope<'_>,
+    acl: &Acl,
+    names: &[Name],
+    rest: u128,
+) -> Result<u128, AllocError>
+    requires { rest ≡ spec.rest_pairs (meanings_in scope.now.objects.now scope.now.ifaces.now) names.now acl.now.lines }
+    ensures { IfOk result (λ n. n ≡ list_pairs (meanings_in scope.now.objects.now scope.now.ifaces.now) acl.now.lines) }
+{
+    let used = used_pairs(alloc, scope, acl, names)?;
+    plus(rest, used)
+}
+
+/// The pairs of all lists, where it is told how many the lines of each have that use none of the names.
+pub(crate) fn counts_with(
+    alloc: Global,
+    scope: &Scope<'_>,
+    table: &ListTable,
+    names: &[Name],
+    rests: &[u128],
+) -> Result<Counts, AllocError>
+    requires { rests.now ≡ map (λ l. spec.rest_pairs (meanings_in scope.now.objects.now scope.now.ifaces.now) names.now l.lines) (lists_in table.now) }
+    ensures { IfOk result (λ n. AreCounts (meanings_in scope.now.objects.now scope.now.ifaces.now) (lists_in table.now) n) }
+{
+    let mut each = Vec::with_capacity(alloc, table.len())?;
+    let mut total = 0;
+    for i in 0..table.len() {
+        let Some(list) = table.at(i) else {
+            unreachable!()
+        };
+        let pairs = pairs_with(alloc, scope, list.acl(), names, count_at(rests, i))?;
+        each.push(pairs)?;
+        total = plus(total, pairs)?;
+    }
+    Ok(Counts { each, total })
+}
