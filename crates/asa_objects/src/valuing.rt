@@ -120,11 +120,11 @@ impl Stated {
         self.content.get().items.as_slice()
     }
 
-    /// Its members, for a change.
-    pub(crate) fn copy_items(&self) -> Result<IndexSet<Item>, AllocError>
-        ensures { IfOk result (λ s. s.keys ≡ self.now.items) }
+    /// Its members as a set.
+    pub(crate) fn set(&self) -> &IndexSet<Item>
+        ensures { result.now.keys ≡ self.now.items }
     {
-        self.content.get().items.clone()
+        &self.content.get().items
     }
 
     /// The names that its members refer to, in their order.
