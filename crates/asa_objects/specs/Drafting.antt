@@ -7,7 +7,7 @@ use Rattle.asa_objects.specs.declared.defining.Drafted.{Drafted}
 use Rattle.asa_objects.specs.declared.drafting.Change.{Change}
 use Rattle.asa_objects.specs.declared.faults.ObjectFault.{ObjectFault}
 use Rattle.asa_objects.specs.declared.faults.ObjectFault.TheVariants as fault
-use Rattle.asa_objects.specs.Tables.{Table, items_of}
+use Rattle.asa_objects.specs.Tables.{Table, items_of, with_entry}
 use Rattle.asa_objects.specs.Ranks.{Ranks}
 use Rattle.asa_objects.specs.Climbing.{IsAbove}
 use Rattle.asa_objects.specs.Defining.{after_lines, inner_lines, lacks_value}
@@ -32,3 +32,7 @@ abbrev pub Drafteds : Table → Ranks → Block → Top → Result Drafted Objec
 Drafteds t ranks b top (Ok d) = IsDrafted t ranks b top d
 Drafteds t ranks b top (Err fault.NoMemory) = Unit {0}
 Drafteds t ranks b top (Err f) = drafted_by t b top ≡ Err f
+
+-- the table after a change of the members of a name
+abbrev pub taken : Table → Top → Change → Table
+taken t top c = with_entry t top.name (record { block = top.block; items = after_change t top.name c })

@@ -3,11 +3,13 @@ ghost use Rattle.std.specs.Prelude.{◌≡◌, ℕ, ◌+◌, ◌≤◌, List, []
 ghost use Rattle.asa_objects.specs.Climbing.{IsAbove};
 ghost use Rattle.asa_objects.specs.Defining as spec;
 ghost use Rattle.asa_objects.specs.Drafting as over;
-ghost use Rattle.asa_objects.specs.Marks.{changed};
+ghost use Rattle.asa_objects.specs.Changing.{Fits, Replaces};
+ghost use Rattle.asa_objects.specs.Marks.{AreNew, changed, standing};
 ghost use Rattle.asa_objects.specs.Ranks.{IsSound};
-ghost use Rattle.asa_objects.specs.Tables.{entry_of};
+ghost use Rattle.asa_objects.specs.Tables.{entry_of, items_of, named};
+ghost use Rattle.std.specs.List.{AllByRecursion};
 
-use crate::changing::{Kept, replace_value};
+use crate::changing::{Kept, grow_value, replace_value, stated_of};
 use crate::climbing::above;
 use crate::drafting::{Change, Draft};
 use crate::faults::ObjectFault;
@@ -29,17 +31,6 @@ fn lacks_value(block: BlockKind, former: &IndexSet<Item>, change: &Change) -> bo
     match block {
         BlockKind::Group(_) => false,
         BlockKind::NetObject | BlockKind::ServiceObject => change.leaves_none(former),
-    }
-}
-
-/// The value of a name that is there.
-fn stated_of<'a>(values: &'a BTreeMap<Name, Stated>, name: &Name) -> &'a Stated
-    requires { is_some (entry_of values.now.entries name.now) ≡ true }
-    ensures { entry_of values.now.entries name.now ≡ Some result.now }
-{
-    match values.get(name) {
-        Some(stated) => stated,
-        None => unreachable!(),
     }
 }
 
@@ -93,6 +84,40 @@ fn read_lines(
     })
 }
 
+/// Whether a change of a value only adds members.
+fn only_adds(stated: &Stated, block: BlockKind, change: &Change) -> bool
+    ensures gone { result ≡ true → change.now.gone.keys ≡ [] }
+    ensures block { result ≡ true → stated.now.block ≡ block }
+{
+    change.gone.as_slice().is_empty() && stated.block() == block
+}
+
+/// Takes a change of the members of a name that is in the table. After a refusal all is as before.
+fn take_change(
+    alloc: Global,
+    values: &mut BTreeMap<Name, Stated>,
+    kept: &mut Kept,
+    top: &Top,
+    change: Change,
+    names: &[Name],
+) -> Result<(), ObjectFault>
+    requires sound { IsSound values.old.entries kept.old.ranks.entries kept.old.uses.entries kept.old.stamp }
+    requires there { is_some (entry_of values.old.entries top.now.name) ≡ true }
+    requires above { IsAbove values.old.entries kept.old.ranks.entries top.now.name names.now }
+    requires new { AreNew (standing (items_of values.old.entries top.now.name) change.gone.keys) change.added.keys }
+    requires fits { AllByRecursion (λ i. Fits values.old.entries top.now.name (named i)) (over.after_change values.old.entries top.now.name change) }
+    ensures sound { IsSound values.new.entries kept.new.ranks.entries kept.new.uses.entries kept.new.stamp }
+    ensures answer { Replaces values.old.entries values.new.entries (over.taken values.old.entries top.now change) result }
+{
+    let stated = stated_of(values, &top.name);
+    if only_adds(stated, top.block, &change) {
+        return grow_value(alloc, values, kept, &top.name, change.added, names);
+    }
+    let items = change.of(stated.set())?;
+    let made = Stated::new(alloc, top.block, items)?;
+    replace_value(alloc, values, kept, &top.name, made, names)
+}
+
 /// Takes the block of a name that is in the table. After a refusal all is as before.
 pub(crate) fn change_value(
     alloc: Global,
@@ -121,9 +146,7 @@ pub(crate) fn change_value(
     if values.len() > 16384 {
         return Err(ObjectFault::TooMany);
     }
-    let items = change.of(stated_of(values, &top.name).set())?;
-    let made = Stated::new(alloc, top.block, items)?;
-    replace_value(alloc, values, kept, &top.name, made, names.as_slice())
+    take_change(alloc, values, kept, top, change, names.as_slice())
 }
 
 /// Takes the block of a name that isn't in the table. After a refusal all is as before.

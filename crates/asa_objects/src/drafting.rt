@@ -64,7 +64,7 @@ pub(crate) fn item_of_value(value: ObjectValue) -> Item
 }
 
 /// A copy of members.
-fn copy_of(items: &IndexSet<Item>) -> Result<IndexSet<Item>, AllocError>
+pub(crate) fn copy_of(items: &IndexSet<Item>) -> Result<IndexSet<Item>, AllocError>
     ensures { IfOk result (λ s. s.keys ≡ items.now.keys) }
 {
     items.clone()
@@ -125,7 +125,7 @@ fn is_none_of(items: &[Item]) -> bool
 }
 
 /// Adds members that aren't there, at the end.
-fn append(items: &mut IndexSet<Item>, added: IndexSet<Item>) -> Result<(), AllocError>
+pub(crate) fn append(items: &mut IndexSet<Item>, added: IndexSet<Item>) -> Result<(), AllocError>
     requires { AreNew items.old.keys added.keys }
     ensures ok { OnOk result (items.new.keys ≡ items.old.keys ++ added.keys) }
     ensures err { OnErr result (items.new.keys ≡ items.old.keys) }
