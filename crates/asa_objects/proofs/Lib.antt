@@ -20,3 +20,4 @@ pub mod StackLaws
 pub mod DraftLaws
 pub mod KeptLaws
 pub mod LoneLaws
+pub mod GrowLaws

@@ -7,10 +7,10 @@ use Rattle.asa_members.specs.declared.stating.Item.{Item}
 use Rattle.asa_objects.specs.declared.faults.ObjectFault.{ObjectFault}
 use Rattle.asa_objects.specs.declared.faults.ObjectFault.TheVariants as fault
 use Rattle.asa_objects.specs.Tables.{Table}
-use Rattle.asa_objects.specs.Defining.{Takes, Drafts, after_line, after_lines, and_then}
+use Rattle.asa_objects.specs.Defining.{Takes, after_line, after_lines, and_then}
 
 ends : (t : Table) (name : List ℕ) (kind : BlockKind) (n : ℕ) (items : List Item) (l : Line) (ls : List Line) (f : ObjectFault) (new : List Item)
-    → Takes (Err f) new (after_line t name kind n items l) → Drafts (Err f) (after_lines t name kind n items (l ∷ ls))
+    → Takes (Err f) new (after_line t name kind n items l) → Takes (Err f) new (after_lines t name kind n items (l ∷ ls))
 unfolding after_lines
 ends t name kind n items l ls fault.NoMemory new takes = tt
 ends t name kind n items l ls fault.TooMany new takes = ap (λ s. and_then s (λ next. after_lines t name kind (n + 1) next ls)) takes
@@ -24,9 +24,9 @@ ends t name kind n items l ls (fault.NotBuilt i) new takes = ap (λ s. and_then 
 
 pub refused-at : (t : Table) (name : List ℕ) (kind : BlockKind) (members items : List Item) (lines : List Line) (i : ℕ) (l : Line) (f : ObjectFault) (new : List Item)
     → after_lines t name kind (i + 2) items (drop i lines) ≡ after_lines t name kind 2 members lines → i < length lines → l ≡ get_or lines i l
-    → Takes (Err f) new (after_line t name kind (i + 2) items l) → Drafts (Err f) (after_lines t name kind 2 members lines)
+    → Takes (Err f) new (after_line t name kind (i + 2) items l) → Takes (Err f) new (after_lines t name kind 2 members lines)
 refused-at t name kind members items lines i l f new fold lt is takes =
-    subst (Drafts (Err f)) fold (subst (λ ls. Drafts (Err f) (after_lines t name kind (i + 2) items ls)) (sym cut) (ends t name kind (i + 2) items l (drop (suc i) lines) f new takes))
+    subst (Takes (Err f) new) fold (subst (λ ls. Takes (Err f) new (after_lines t name kind (i + 2) items ls)) (sym cut) (ends t name kind (i + 2) items l (drop (suc i) lines) f new takes))
   where
     cut : drop i lines ≡ l ∷ drop (suc i) lines
     cut = drop-cons lines i l lt ∙ ap (λ m. m ∷ drop (suc i) lines) (sym is)

@@ -1,6 +1,10 @@
 -- Ranks that take the place of others, and values that come back.
-use Rattle.std.proofs.Common.{◌≡◌, ℕ, ◌+◌, ◌<◌, Bool, true, false, cond, ◌||◌, List, [], ◌∷◌, length, take, get_or, Option, Some, None, is_some, refl, sym, ap, ◌∙◌}
-use Rattle.std.specs.Map.{lookup}
+use Rattle.std.proofs.Common.{◌≡◌, ℕ, ◌+◌, ◌<◌, Bool, true, false, cond, ◌||◌, List, [], ◌∷◌, length, take, get_or, Option, Some, None, is_some, refl, sym, ap, ◌∙◌, arith}
+use Rattle.std.specs.Map.{lookup, set_value, keys_of}
+use Rattle.std.specs.List.Sorted.{IsStrictlySortedBy}
+use Rattle.std.proofs.lemmas.Map.Keys.{sorted_tail}
+use Rattle.std.proofs.lemmas.Map.Entries.{lookup_at_gap}
+use Rattle.asa_members.specs.declared.stating.Item.{Item}
 use Rattle.std.specs.BTreeMap.{BTreeMap, is_at, insert_entry, IsOrdered}
 use Rattle.std.specs.Map.{remove_entry}
 use Rattle.std.specs.Ordering.{nat_cmp, match_ordering, is_eq}
@@ -10,7 +14,7 @@ use Rattle.std.specs.Cmp.Lexicographic.{slice_cmp}
 use Rattle.std.proofs.lemmas.Cmp.{nat_list_cmp_total}
 use Rattle.std.proofs.lemmas.Map.Lookups.{exact_bytes, btree_map_from_get}
 use Rattle.asa_objects.specs.declared.ranking.Rank.{Rank}
-use Rattle.asa_objects.specs.Tables.{Entry, Table, entry_of, same_name, with_entry}
+use Rattle.asa_objects.specs.Tables.{Entry, Table, entry_of, grown, grown_at, grown_in, same_name, with_entry}
 use Rattle.asa_objects.specs.Ranks.{Ranks, rank_of, has_name}
 use Rattle.asa_objects.specs.Totalling.{newer}
 use Rattle.asa_objects.proofs.LabelLaws.{same-is, same-self}
@@ -59,24 +63,6 @@ set-newer ranks new made names covers set q = set q ∙ by (rank_of new q) (cove
     by None h = ap (λ (b : Bool). cond b (rank_of ranks q) (rank_of ranks q)) (sym h)
     by (Some r) h = ap (λ (b : Bool). cond b (Some r) (rank_of ranks q)) (sym h)
 
--- a value that comes back
-pub value-back : {V : Type 0} (m n p : BTreeMap (List ℕ) V) (name : List ℕ) (made old : V) → IsOrdered (slice_cmp nat_cmp) m → IsOrdered (slice_cmp nat_cmp) p
-    → lookup (is_at (slice_cmp nat_cmp name)) m.entries ≡ Some old
-    → ((q : List ℕ) → lookup (is_at (slice_cmp nat_cmp q)) n.entries ≡ cond (same_name name q) (Some made) (lookup (is_at (slice_cmp nat_cmp q)) m.entries))
-    → ((q : List ℕ) → lookup (is_at (slice_cmp nat_cmp q)) p.entries ≡ cond (same_name name q) (Some old) (lookup (is_at (slice_cmp nat_cmp q)) n.entries))
-    → p.entries ≡ m.entries
-value-back m n p name made old ordered ordered2 was put back =
-    btree_map_from_get nat_list_cmp_total p m ordered2 ordered each exact_bytes
-  where
-    each : (q : List ℕ) → lookup (is_at (slice_cmp nat_cmp q)) p.entries ≡ lookup (is_at (slice_cmp nat_cmp q)) m.entries
-    each q = by (same_name name q) refl (back q) (put q)
-      where
-        by : (b : Bool) → same_name name q ≡ b → lookup (is_at (slice_cmp nat_cmp q)) p.entries ≡ cond b (Some old) (lookup (is_at (slice_cmp nat_cmp q)) n.entries)
-            → lookup (is_at (slice_cmp nat_cmp q)) n.entries ≡ cond b (Some made) (lookup (is_at (slice_cmp nat_cmp q)) m.entries)
-            → lookup (is_at (slice_cmp nat_cmp q)) p.entries ≡ lookup (is_at (slice_cmp nat_cmp q)) m.entries
-        by true e b p = b ∙ sym was ∙ ap (λ k. lookup (is_at (slice_cmp nat_cmp k)) m.entries) (same-is name q e)
-        by false e b p = b ∙ p
-
 -- a name that goes again
 pub name-gone : {V : Type 0} (name : List ℕ) (v : V) (es : List (List ℕ × V)) → lookup (is_at (slice_cmp nat_cmp name)) es ≡ None
     → remove_entry (is_at (slice_cmp nat_cmp name)) (insert_entry (slice_cmp nat_cmp) es name v) ≡ es
@@ -118,3 +104,40 @@ entry-put (e ∷ es) name made q = by (slice_cmp nat_cmp name e.0) refl (entry-p
             let no : same_name name q ≡ false = ap (same_name name) eq ∙ ap is_eq same in
             ap (λ (c : Bool). cond c (Some e.1) (entry_of (with_entry es name made) q)) h
             ∙ sym (ap (λ (c : Bool). cond c (Some made) (cond (same_name q e.0) (Some e.1) (entry_of es q))) no ∙ ap (λ (c : Bool). cond c (Some e.1) (entry_of es q)) h)
+
+-- a value that is written in its place
+pub set-insert : {V : Type 0} (name : List ℕ) (v w : V) (es : List (List ℕ × V)) → IsStrictlySortedBy (slice_cmp nat_cmp) (keys_of es) → lookup (is_at (slice_cmp nat_cmp name)) es ≡ Some w
+    → set_value (is_at (slice_cmp nat_cmp name)) es v ≡ insert_entry (slice_cmp nat_cmp) es name v
+set-insert name v w [] sorted found = absurd (cc)
+set-insert {V} name v w (e ∷ es) sorted found = by (slice_cmp nat_cmp name e.0) refl found (λ h. set-insert name v w es (sorted_tail (slice_cmp nat_cmp) e.0 (keys_of es) sorted) h)
+  where
+    gone : slice_cmp nat_cmp name e.0 ≡ cmp.Less → lookup (is_at (slice_cmp nat_cmp name)) (e ∷ es) ≡ None
+    gone less = lookup_at_gap nat_list_cmp_total name (e ∷ es) 0 sorted (λ j x lt h. absurd (omega arith)) (λ x h. let same : e ≡ x = cc in ap (λ y. slice_cmp nat_cmp name y.0) (sym same) ∙ less)
+
+    by : (r : Ordering) → slice_cmp nat_cmp name e.0 ≡ r → cond (is_eq r) (Some e.1) (lookup (is_at (slice_cmp nat_cmp name)) es) ≡ Some w
+        → (lookup (is_at (slice_cmp nat_cmp name)) es ≡ Some w → set_value (is_at (slice_cmp nat_cmp name)) es v ≡ insert_entry (slice_cmp nat_cmp) es name v)
+        → cond (is_eq r) ((e.0, v) ∷ es) (e ∷ set_value (is_at (slice_cmp nat_cmp name)) es v) ≡ match_ordering r ((name, v) ∷ e ∷ es) ((e.0, v) ∷ es) (e ∷ insert_entry (slice_cmp nat_cmp) es name v)
+    by cmp.Less same f more =
+        let none = ap (λ (r : Ordering). cond (is_eq r) (Some e.1) (lookup (is_at (slice_cmp nat_cmp name)) es)) (sym same) ∙ gone same in absurd (cc)
+    by cmp.Equal same f more = refl
+    by cmp.Greater same f more = ap (λ r. e ∷ r) (more f)
+
+-- the value that was there is written in its place
+pub set-same : {V : Type 0} (name : List ℕ) (w : V) (es : List (List ℕ × V)) → lookup (is_at (slice_cmp nat_cmp name)) es ≡ Some w → set_value (is_at (slice_cmp nat_cmp name)) es w ≡ es
+set-same name w [] found = absurd (cc)
+set-same {V} name w (e ∷ es) found = by (is_at (slice_cmp nat_cmp name) e.0) found (λ h. set-same name w es h)
+  where
+    by : (b : Bool) → cond b (Some e.1) (lookup (is_at (slice_cmp nat_cmp name)) es) ≡ Some w
+        → (lookup (is_at (slice_cmp nat_cmp name)) es ≡ Some w → set_value (is_at (slice_cmp nat_cmp name)) es w ≡ es)
+        → cond b ((e.0, w) ∷ es) (e ∷ set_value (is_at (slice_cmp nat_cmp name)) es w) ≡ e ∷ es
+    by true f more = let same : w ≡ e.1 = cc in ap (λ x. (e.0, x) ∷ es) same
+    by false f more = ap (λ r. e ∷ r) (more f)
+
+-- a value that has grown in its place
+pub grow-put : (t n : Table) (name : List ℕ) (w e : Entry) (added : List Item) → IsStrictlySortedBy (slice_cmp nat_cmp) (keys_of t) → entry_of t name ≡ Some e
+    → n ≡ set_value (is_at (slice_cmp nat_cmp name)) t w → w ≡ grown e added → n ≡ grown_at t name added
+grow-put t n name w e added sorted found put is =
+    put ∙ set-insert name w e t sorted found ∙ ap (with_entry t name) is ∙ sym (ap (λ o. grown_in t name added o) found)
+
+pub grow-kept : (t n : Table) (name : List ℕ) (w e : Entry) → entry_of t name ≡ Some e → n ≡ set_value (is_at (slice_cmp nat_cmp name)) t w → w ≡ e → n ≡ t
+grow-kept t n name w e found put is = put ∙ ap (set_value (is_at (slice_cmp nat_cmp name)) t) is ∙ set-same name e t found

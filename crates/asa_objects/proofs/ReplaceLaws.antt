@@ -1,5 +1,5 @@
 -- A name's value is replaced, or put back.
-use Rattle.std.proofs.Common.{◌≡◌, ℕ, Bool, true, false, cond, ◌||◌, ◌&&◌, not, List, [], ◌∷◌, Option, Some, None, Err, refl, sym, ap, subst, ◌∙◌}
+use Rattle.std.proofs.Common.{◌≡◌, ℕ, Bool, true, false, cond, ◌||◌, ◌&&◌, not, List, [], ◌∷◌, Option, Some, None, refl, sym, ap, subst, ◌∙◌}
 use Rattle.std.specs.List.{AllZip, list_any}
 use Rattle.std.specs.BTreeSet.{BTreeSet}
 use Rattle.std.specs.Map.{lookup}
@@ -9,18 +9,14 @@ use Rattle.std.specs.Ordering.{nat_cmp}
 use Rattle.std.specs.Cmp.Lexicographic.{slice_cmp}
 use Rattle.asa_members.specs.declared.stating.Item.{Item}
 use Rattle.asa_objects.specs.declared.totaling.Renewed.{Renewed}
-use Rattle.asa_objects.specs.declared.faults.ObjectFault.{ObjectFault}
-use Rattle.asa_objects.specs.declared.faults.ObjectFault.TheVariants as fault
-use Rattle.asa_objects.specs.Tables.{Entry, Table, entry_of, items_in, items_of, named, refers_to, same_name, with_entry}
-use Rattle.asa_objects.specs.Defining.{are_small}
+use Rattle.asa_objects.specs.Tables.{Entry, Table, entry_of, items_in, items_of, named, refers_to, same_name}
 use Rattle.asa_objects.specs.Ranks.{IsSound, Ranks, Uses, rank_of, users_of, users_in, has_name, refs_in}
 use Rattle.asa_objects.specs.Totalling.{newer, IsRenewed, AreSmall}
 use Rattle.asa_objects.specs.Using.{AreUsed, AreUnused}
-use Rattle.asa_objects.specs.Changing.{SameUsers, RefersTo, Prepares, Replaces}
+use Rattle.asa_objects.specs.Changing.{SameUsers, RefersTo}
 use Rattle.asa_objects.proofs.LabelLaws.{same-is}
 use Rattle.asa_objects.proofs.ReachLaws.{any-append, test_of}
 use Rattle.asa_objects.proofs.ChangeLaws.{IsChange, change-sound}
-use Rattle.asa_objects.proofs.OverLaws.{over-false}
 
 -- the names that members refer to
 pub refs-any : (c : List ℕ) (xs : List Item) → list_any (refers_to c) xs ≡ has_name (refs_in xs) c
@@ -96,34 +92,6 @@ pub replace-sound : (t after : Table) (ranks ranks2 : Ranks) (uses mid uses2 : U
 replace-sound t after ranks ranks2 uses mid uses2 stamp name former made names kept x change is prepared set now unused =
     change-sound t after ranks uses stamp name made names change x.ranks.entries ranks2 x.label prepared.0 prepared.1 now uses2
     (used-after t after ranks uses mid uses2 stamp name former made kept change.sound is change.entry prepared.2 set unused)
-
--- what is kept after a refusal
-pub replace-same : (t after : Table) (ranks : Ranks) (uses uses2 : Uses) (stamp : ℕ) (name : List ℕ) (names refs : List (List ℕ)) (f : ObjectFault) → IsSound t ranks uses stamp
-    → Prepares after ranks stamp names uses uses2 name refs (Err f) → IsSound t ranks uses2 stamp
-replace-same t after ranks uses uses2 stamp name names refs fault.TooMany sound p = sound-users t ranks uses uses2 stamp sound p.1
-replace-same t after ranks uses uses2 stamp name names refs fault.NoMemory sound p = sound-users t ranks uses uses2 stamp sound p
-replace-same t after ranks uses uses2 stamp name names refs fault.NameTaken sound p = absurd p
-replace-same t after ranks uses uses2 stamp name names refs (fault.Unknown l c) sound p = absurd p
-replace-same t after ranks uses uses2 stamp name names refs (fault.Bad l c) sound p = absurd p
-replace-same t after ranks uses uses2 stamp name names refs (fault.Unsupported l c) sound p = absurd p
-replace-same t after ranks uses uses2 stamp name names refs (fault.Cycle l) sound p = absurd p
-replace-same t after ranks uses uses2 stamp name names refs (fault.NoSuchMember l) sound p = absurd p
-replace-same t after ranks uses uses2 stamp name names refs (fault.NotBuilt l) sound p = absurd p
-
--- the answer to a change that is refused
-pub replace-refused : (t after new : Table) (ranks : Ranks) (uses uses2 : Uses) (stamp : ℕ) (name : List ℕ) (made : Entry) (names refs : List (List ℕ)) (f : ObjectFault)
-    → IsChange t after ranks uses stamp name made names → after ≡ with_entry t name made → new ≡ t
-    → Prepares after ranks stamp names uses uses2 name refs (Err f) → Replaces t new (with_entry t name made) (Err f)
-replace-refused t after new ranks uses uses2 stamp name made names refs fault.TooMany change is back p =
-    (ap are_small (sym is) ∙ over-false t after ranks uses stamp name made names change p.0, back)
-replace-refused t after new ranks uses uses2 stamp name made names refs fault.NoMemory change is back p = back
-replace-refused t after new ranks uses uses2 stamp name made names refs fault.NameTaken change is back p = absurd p
-replace-refused t after new ranks uses uses2 stamp name made names refs (fault.Unknown l c) change is back p = absurd p
-replace-refused t after new ranks uses uses2 stamp name made names refs (fault.Bad l c) change is back p = absurd p
-replace-refused t after new ranks uses uses2 stamp name made names refs (fault.Unsupported l c) change is back p = absurd p
-replace-refused t after new ranks uses uses2 stamp name made names refs (fault.Cycle l) change is back p = absurd p
-replace-refused t after new ranks uses uses2 stamp name made names refs (fault.NoSuchMember l) change is back p = absurd p
-replace-refused t after new ranks uses uses2 stamp name made names refs (fault.NotBuilt l) change is back p = absurd p
 
 -- a copy of the users of names has the same users
 pub copied-users : (old new : Uses) → AllZip (λ (p q : List ℕ × BTreeSet (List ℕ)). (q.0 ≡ p.0) × AllZip (λ (a b : List ℕ). b ≡ a) p.1.keys q.1.keys) old new → SameUsers old new

@@ -35,17 +35,17 @@ total-alike : {X : Type 0} (f g : X → ℕ) → ((x : X) → f x ≡ g x) → (
 total-alike f g h [] = refl
 total-alike f g h (x ∷ xs) = let here = h x in let more = total-alike f g h xs in omega arith
 
-amount-both : (k : Part) (s t : Amounts) → amount k (both_totals s t) ≡ amount k s + amount k t
+pub amount-both : (k : Part) (s t : Amounts) → amount k (both_totals s t) ≡ amount k s + amount k t
 amount-both members s t = refl
 amount-both prefixes s t = refl
 amount-both services s t = refl
 
-amount-in : (k : Part) (e : Entry) → amount k (totals_in (group_of e.block) e.items) ≡ total (λ i. amount k (own_totals (group_of e.block) i)) e.items
+pub amount-in : (k : Part) (e : Entry) → amount k (totals_in (group_of e.block) e.items) ≡ total (λ i. amount k (own_totals (group_of e.block) i)) e.items
 amount-in members e = refl
 amount-in prefixes e = refl
 amount-in services e = refl
 
-amount-refs : (k : Part) (new ranks : Ranks) (qs : List (List ℕ)) → amount k (ref_totals new ranks qs) ≡ total (amount_now k new ranks) qs
+pub amount-refs : (k : Part) (new ranks : Ranks) (qs : List (List ℕ)) → amount k (ref_totals new ranks qs) ≡ total (amount_now k new ranks) qs
 amount-refs members new ranks qs = total-alike _ _ (λ q. sym (amount-rank members (rank_now new ranks q))) qs
 amount-refs prefixes new ranks qs = total-alike _ _ (λ q. sym (amount-rank prefixes (rank_now new ranks q))) qs
 amount-refs services new ranks qs = total-alike _ _ (λ q. sym (amount-rank services (rank_now new ranks q))) qs

@@ -211,34 +211,3 @@ unuse-either old new made user names kept i d lt is was gone stays = by (has_nam
     by : (b : Bool) → has_name kept d ≡ b → AreUnused old made user (take (i + 1) names) kept
     by true e = λ q u. stays e q u ∙ unuse-kept old new user names kept i d lt is was e q u
     by false e = unuse-more old new made user names kept i d lt is was e (gone e)
-
-bool-back : (k s n : Bool) → (s ≡ true → n ≡ true) → ((k || s) && not (n && not k)) ≡ k
-bool-back true s true h = refl
-bool-back true s false h = refl
-bool-back false true true h = refl
-bool-back false true false h = absurd (false≢true (h refl))
-bool-back false false n h = refl
-
--- what was added in part is taken back
-pub unuse-part : (old mid new : Uses) (user : List ℕ) (names kept : List (List ℕ)) → ((c : List ℕ) → has_name (users_of old c) user ≡ has_name kept c)
-    → IsPartUsed old mid user names → AreUnused mid new user names kept → (q u : List ℕ) → has_name (users_of new q) u ≡ has_name (users_of old q) u
-unuse-part old mid new user names kept refers part unused q u =
-    unused q u ∙ ap (λ b. b && not (same_name user u && (has_name names q && not (has_name kept q)))) (part.used q u) ∙ by (same_name user u) refl
-  where
-    inside : has_name part.some q ≡ true → has_name names q ≡ true
-    inside h = ap (λ ns. has_name ns q) part.split ∙ any-append _ part.some part.rest ∙ ap (λ b. b || has_name part.rest q) h
-
-    and-all : (o : Bool) → ((o || false) && true) ≡ o
-    and-all true = refl
-    and-all false = refl
-
-    by : (b : Bool) → same_name user u ≡ b
-        → ((has_name (users_of old q) u || (same_name user u && has_name part.some q)) && not (same_name user u && (has_name names q && not (has_name kept q)))) ≡ has_name (users_of old q) u
-    by true e =
-        let k : has_name (users_of old q) u ≡ has_name kept q = ap (has_name (users_of old q)) (sym (same-is user u e)) ∙ refers q in
-        ap (λ (b : Bool). (has_name (users_of old q) u || (b && has_name part.some q)) && not (b && (has_name names q && not (has_name kept q)))) e
-        ∙ ap (λ o. (o || has_name part.some q) && not (has_name names q && not (has_name kept q))) k
-        ∙ bool-back (has_name kept q) (has_name part.some q) (has_name names q) inside ∙ sym k
-    by false e =
-        ap (λ (b : Bool). (has_name (users_of old q) u || (b && has_name part.some q)) && not (b && (has_name names q && not (has_name kept q)))) e
-        ∙ and-all (has_name (users_of old q) u)

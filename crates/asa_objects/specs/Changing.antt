@@ -1,14 +1,14 @@
 -- A name gets another value.
-use Rattle.std.specs.Prelude.{◌≡◌, ℕ, true, false, List, Option, Some, None, Result, Ok, Err, is_some}
+use Rattle.std.specs.Prelude.{◌≡◌, ℕ, true, false, List, [], Option, Some, None, Result, Ok, Err, is_some}
 use Rattle.std.specs.List.{AllByRecursion}
 use Rattle.asa_objects.specs.declared.faults.ObjectFault.{ObjectFault}
 use Rattle.asa_objects.specs.declared.faults.ObjectFault.TheVariants as fault
-use Rattle.asa_objects.specs.declared.totaling.Renewed.{Renewed}
-use Rattle.asa_objects.specs.Tables.{Table, entry_of, reaches}
+use Rattle.asa_objects.specs.declared.changing.Growth.{Growth}
+use Rattle.asa_members.specs.declared.stating.Item.{Item}
+use Rattle.asa_objects.specs.Tables.{Table, entry_of, group_at, reaches}
 use Rattle.asa_objects.specs.Defining.{are_small}
-use Rattle.asa_objects.specs.Ranks.{Ranks, Uses, rank_of, has_name, users_of}
-use Rattle.asa_objects.specs.Totalling.{IsRenewed, AreSmall, IsOverfull}
-use Rattle.asa_objects.specs.Using.{AreUsed}
+use Rattle.asa_objects.specs.Ranks.{Ranks, Uses, rank_of, has_name, users_of, both_totals, refs_in, totals_in}
+use Rattle.asa_objects.specs.Totalling.{ref_totals, totals_in_rank}
 
 -- each of the names has a rank
 abbrev pub AreRanked : Ranks → List (List ℕ) → Type 0
@@ -22,12 +22,13 @@ SameUsers old new = (q u : List ℕ) → has_name (users_of new q) u ≡ has_nam
 abbrev pub RefersTo : Uses → List ℕ → List (List ℕ) → Type 0
 RefersTo uses name refs = (c : List ℕ) → has_name (users_of uses c) name ≡ has_name refs c
 
--- what the preparation of a change may answer
-abbrev pub Prepares : Table → Ranks → ℕ → List (List ℕ) → Uses → Uses → List ℕ → List (List ℕ) → Result Renewed ObjectFault → Type 0
-Prepares t ranks stamp names old new name refs (Ok x) = IsRenewed t ranks stamp names x.ranks.entries x.label × AreSmall x.ranks.entries × AreUsed old new name refs
-Prepares t ranks stamp names old new name refs (Err fault.TooMany) = IsOverfull t ranks stamp names × SameUsers old new
-Prepares t ranks stamp names old new name refs (Err fault.NoMemory) = SameUsers old new
-Prepares t ranks stamp names old new name refs (Err _) = ⊥
+-- what further members of a name refer to, and what totals it then has
+abbrev pub Grows : Table → Ranks → List ℕ → List Item → Result Growth ObjectFault → Type 0
+Grows t ranks name added (Ok g) =
+    (g.refs.items ≡ refs_in added)
+    × (g.totals ≡ both_totals (totals_in_rank (rank_of ranks name)) (both_totals (totals_in (group_at (entry_of t name)) added) (ref_totals [] ranks (refs_in added))))
+Grows t ranks name added (Err fault.NoMemory) = Unit {0}
+Grows t ranks name added (Err _) = ⊥
 
 -- what a change of a name's value may answer, where the table would become this
 abbrev pub Replaces : Table → Table → Table → Result (Unit {0}) ObjectFault → Type 0

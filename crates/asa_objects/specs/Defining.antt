@@ -172,9 +172,3 @@ abbrev pub Takes : {X : Type 0} → Result (Unit {0}) ObjectFault → X → Resu
 Takes (Ok _) new s = s ≡ Ok new
 Takes (Err fault.NoMemory) new s = Unit {0}
 Takes (Err f) new s = s ≡ Err f
-
--- the same where the draft is given
-abbrev pub Drafts : {X : Type 0} → Result X ObjectFault → Result X ObjectFault → Type 0
-Drafts (Ok x) s = s ≡ Ok x
-Drafts (Err fault.NoMemory) s = Unit {0}
-Drafts (Err f) s = s ≡ Err f

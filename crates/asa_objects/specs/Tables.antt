@@ -1,12 +1,11 @@
 -- The table of objects and groups: each name with its value, in the order of the names' bytes. What is said of a name here
 -- is said by looking it up, so two tables mean the same where each look-up gives the same.
-use Rattle.std.specs.Prelude.{ℕ, suc, Bool, false, ◌||◌, List, [], ◌∷◌, length, Option, Some, None}
+use Rattle.std.specs.Prelude.{ℕ, suc, Bool, false, ◌||◌, List, [], ◌∷◌, ◌++◌, length, Option, Some, None}
 use Rattle.std.specs.List.{list_any, find}
 use Rattle.std.specs.Option.{option_map, option_to_list}
 use Rattle.std.specs.Map.{lookup, remove_entry}
 use Rattle.std.specs.BTreeMap.{is_at, insert_entry}
 use Rattle.std.specs.Ordering.{nat_cmp}
-use Rattle.std.specs.declared.cmp.Ordering.{Ordering}
 use Rattle.std.specs.Cmp.Lexicographic.{slice_cmp}
 use Rattle.asa_base.specs.declared.knowing.Kind.{Kind}
 use Rattle.asa_base.specs.declared.knowing.PortProto.{PortProto}
@@ -32,10 +31,6 @@ pub record Entry : Type 0 where
 abbrev pub Table : Type 0
 Table = List (List ℕ × Entry)
 
--- the order of names
-abbrev pub name_order : List ℕ → List ℕ → Ordering
-name_order = slice_cmp nat_cmp
-
 -- the two names are the same
 abbrev pub same_name : List ℕ → List ℕ → Bool
 same_name a b = is_at (slice_cmp nat_cmp a) b
@@ -47,6 +42,18 @@ entry_of t name = lookup (is_at (slice_cmp nat_cmp name)) t
 -- the table with this at the name
 abbrev pub with_entry : Table → List ℕ → Entry → Table
 with_entry t name entry = insert_entry (slice_cmp nat_cmp) t name entry
+
+-- the value with further members
+abbrev pub grown : Entry → List Item → Entry
+grown entry added = record { block = entry.block; items = entry.items ++ added }
+
+-- the table in which the value at the name has further members
+abbrev pub grown_in : Table → List ℕ → List Item → Option Entry → Table
+grown_in t name added None = t
+grown_in t name added (Some entry) = with_entry t name (grown entry added)
+
+abbrev pub grown_at : Table → List ℕ → List Item → Table
+grown_at t name added = grown_in t name added (entry_of t name)
 
 -- the table without the name
 abbrev pub without_name : Table → List ℕ → Table

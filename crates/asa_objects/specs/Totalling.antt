@@ -1,5 +1,5 @@
 -- New totals and labels of the names that reach a name, one after another, each from those that are new already.
-use Rattle.std.specs.Prelude.{◌≡◌, ℕ, ◌<◌, ◌≤◌, ◌⊎◌, true, List, ◌∷◌, ◌++◌, Option, Some, None, Result, Ok, Err, is_some}
+use Rattle.std.specs.Prelude.{◌≡◌, ℕ, ◌<◌, ◌≤◌, ◌⊎◌, true, false, List, [], ◌∷◌, ◌++◌, Option, Some, None, Result, Ok, Err, is_some}
 use Rattle.std.specs.List.{AllByRecursion}
 use Rattle.asa_objects.specs.Amounts.{Amounts}
 use Rattle.asa_objects.specs.declared.ranking.Rank.{Rank}
@@ -7,7 +7,7 @@ use Rattle.asa_objects.specs.declared.totaling.Renewed.{Renewed}
 use Rattle.asa_objects.specs.declared.faults.ObjectFault.{ObjectFault}
 use Rattle.asa_objects.specs.declared.faults.ObjectFault.TheVariants as fault
 use Rattle.asa_objects.specs.Spreads.{total}
-use Rattle.asa_objects.specs.Tables.{Table, items_of, named}
+use Rattle.asa_objects.specs.Tables.{Table, entry_of, items_of, named, same_name}
 use Rattle.asa_objects.specs.Climbing.{Rises}
 use Rattle.asa_objects.specs.Ranks.{Part, members, services, amount, Ranks, rank_of, label_of, amount_in, amount_of, has_name, weigh, no_totals}
 
@@ -90,6 +90,24 @@ Sums t new ranks name (Ok totals) = AreSums t new ranks name totals × (totals.m
 Sums t new ranks name (Err fault.TooMany) = IsOver t new ranks name
 Sums t new ranks name (Err fault.NoMemory) = Unit {0}
 Sums t new ranks name (Err _) = ⊥
+
+-- whether totals that are told are within the limit
+abbrev pub Limits : Amounts → Result Amounts ObjectFault → Type 0
+Limits told (Ok totals) = (totals ≡ told) × (totals.members ≤ 65536) × (totals.services ≤ 65536)
+Limits told (Err fault.TooMany) = (65536 < told.members) ⊎ (65536 < told.services)
+Limits told (Err _) = ⊥
+
+-- the name that a member refers to is none of these
+abbrev pub IsApart : List (List ℕ) → Option (List ℕ) → Type 0
+IsApart names None = Unit {0}
+IsApart names (Some name) = has_name names name ≡ false
+
+-- after is the table t but for what one name stands for, whose totals then are those that are told
+pub record IsTold (t after : Table) (ranks : Ranks) (name : List ℕ) (told : Amounts) (names : List (List ℕ)) : Type 0 where
+  pub laid : IsLaid after ranks names
+  pub others : (q : List ℕ) → same_name name q ≡ false → entry_of after q ≡ entry_of t q
+  pub sums : AreSums after [] ranks name told
+  pub apart : AllByRecursion (λ i. IsApart names (named i)) (items_of after name)
 
 -- what the renewal of all these names may answer
 abbrev pub Renews : Table → Ranks → ℕ → List (List ℕ) → Result Renewed ObjectFault → Type 0

@@ -1,5 +1,6 @@
 -- Changes of which names refer to each name.
 use Rattle.std.specs.Prelude.{◌≡◌, ℕ, ◌&&◌, ◌||◌, not, List, ◌++◌}
+use Rattle.std.specs.List.{filter}
 use Rattle.asa_objects.specs.Tables.{same_name}
 use Rattle.asa_objects.specs.Ranks.{Uses, has_name, users_of}
 
@@ -17,3 +18,7 @@ pub record IsPartUsed (old new : Uses) (user : List ℕ) (names : List (List ℕ
 -- one name no longer refers to those of these others that aren't kept
 abbrev pub AreUnused : Uses → Uses → List ℕ → List (List ℕ) → List (List ℕ) → Type 0
 AreUnused old new user names kept = (q u : List ℕ) → has_name (users_of new q) u ≡ (has_name (users_of old q) u && not (same_name user u && (has_name names q && not (has_name kept q))))
+
+-- those of these others that one name doesn't refer to
+abbrev pub unused_in : Uses → List (List ℕ) → List ℕ → List (List ℕ)
+unused_in uses names user = filter (λ q. not (has_name (users_of uses q) user)) names

@@ -1,34 +1,31 @@
 //! What is kept of names, as one of them gets another value. Each change is taken whole or not at all.
-ghost use Rattle.std.specs.Prelude.{◌≡◌, ℕ, List, true, false, cond, Some, None, is_some, IfSome, IfErr, IfOk, OnOk, OnErr};
+ghost use Rattle.std.specs.Prelude.{◌≡◌, ℕ, List, [], ◌++◌, true, false, cond, Some, None, is_some, IfSome, IfErr, IfOk, OnOk, OnErr};
 ghost use Rattle.asa_objects.specs.declared.faults.ObjectFault.TheVariants as fault;
 ghost use Rattle.asa_objects.specs.Changing as spec;
 ghost use Rattle.asa_objects.specs.Climbing.{IsAbove};
-ghost use Rattle.asa_objects.specs.Ranks.{IsSound, has_name, rank_of, refs_in, users_of};
-ghost use Rattle.asa_objects.specs.Tables.{entry_of, named, same_name, with_entry};
-ghost use Rattle.asa_objects.specs.Totalling.{IsLaid, IsOverfull, IsRenewed, AreSmall, newer};
-ghost use Rattle.asa_objects.specs.Using.{AreUsed, AreUnused};
+ghost use Rattle.asa_objects.specs.Marks.{AreNew};
+ghost use Rattle.asa_objects.specs.Ranks.{IsSound, has_name, rank_of, users_of};
+ghost use Rattle.asa_objects.specs.Tables.{entry_of, grown_at, items_of, named, same_name, with_entry};
+ghost use Rattle.asa_objects.specs.Totalling.{newer};
+ghost use Rattle.asa_objects.specs.Using.{AreUsed, AreUnused, unused_in};
 ghost use Rattle.std.specs.List.{AllByRecursion};
-ghost use Rattle.std.specs.BTreeMap.{IsOrdered};
-ghost use Rattle.std.specs.Ordering.{nat_cmp};
-ghost use Rattle.std.specs.Cmp.Lexicographic.{slice_cmp};
 
 use crate::faults::ObjectFault;
-use crate::ranking::Rank;
-use crate::totaling::{Renewed, renew};
-use crate::using::{add_uses, drop_uses, set_of};
-use crate::valuing::Stated;
+use crate::ranking::{Rank, Totals};
+use crate::totaling::{Renewed, renew, totals_grown, totals_with_refs};
+use crate::using::{add_uses, drop_uses, set_of, unused_of};
+use crate::valuing::{Stated, group_of, refs_in};
 use asa_base::Name;
+use asa_members::Item;
+use indexmap::IndexSet;
 use std::alloc::{AllocError, Global};
 use std::collections::{BTreeMap, BTreeSet};
-use std::mem::replace;
 
 /// Puts another value at a name that is there, and gives the former one.
 pub(crate) fn put_value(values: &mut BTreeMap<Name, Stated>, name: &Name, stated: Stated) -> Stated
     requires { is_some (entry_of values.old.entries name.now) ≡ true }
     ensures value { entry_of values.old.entries name.now ≡ Some result }
     ensures entries { values.new.entries ≡ with_entry values.old.entries name.now stated }
-    ensures ordered { IsOrdered (slice_cmp nat_cmp) values.new }
-    ensures was_ordered { IsOrdered (slice_cmp nat_cmp) values.old }
     ensures found { (q : List ℕ) → entry_of values.new.entries q ≡ cond (same_name name.now q) (Some stated) (entry_of values.old.entries q) }
 {
     match values.insert(name.copy(), stated) {
@@ -69,48 +66,32 @@ fn set_ranks(ranks: &mut BTreeMap<Name, Rank>, new: &BTreeMap<Name, Rank>, names
     }
 }
 
-/// Notes that a name refers to others beside those that it referred to. On want of memory all is as before.
+/// Takes back that a name refers to others, to which it didn't refer before.
+fn forget_refs(alloc: Global, uses: &mut BTreeMap<Name, BTreeSet<Name>>, name: &Name, refs: &[Name])
+    ensures { AreUnused uses.old.entries uses.new.entries name.now refs.now [] }
+{
+    let none = BTreeSet::new(alloc);
+    drop_uses(uses, refs, &none, name);
+}
+
+/// Notes that a name refers to others, and tells to which of them it didn't refer before. On want of memory all is as before.
 fn note_refs(
     alloc: Global,
     uses: &mut BTreeMap<Name, BTreeSet<Name>>,
     name: &Name,
     refs: &[Name],
-    old: &BTreeSet<Name>,
-) -> Result<(), AllocError>
-    requires { spec.RefersTo uses.old.entries name.now old.now.keys }
-    ensures ok { OnOk result (AreUsed uses.old.entries uses.new.entries name.now refs.now) }
+) -> Result<Vec<Name>, AllocError>
+    ensures fresh { IfOk result (λ v. v.items ≡ unused_in uses.old.entries refs.now name.now) }
+    ensures ok { OnOk result (AreUsed uses.old.entries uses.new.entries name.now (unused_in uses.old.entries refs.now name.now)) }
     ensures err { OnErr result (spec.SameUsers uses.old.entries uses.new.entries) }
 {
-    match add_uses(alloc, uses, refs, name) {
-        Ok(()) => Ok(()),
+    let fresh = unused_of(alloc, uses, refs, name)?;
+    match add_uses(alloc, uses, fresh.as_slice(), name) {
+        Ok(()) => Ok(fresh),
         Err(error) => {
-            drop_uses(uses, refs, old, name);
+            forget_refs(alloc, uses, name, fresh.as_slice());
             Err(error)
         }
-    }
-}
-
-/// The new ranks of the names that reach a name, and the names that this now refers to noted. After a refusal all is as
-/// before.
-fn prepare(
-    alloc: Global,
-    values: &BTreeMap<Name, Stated>,
-    ranks: &BTreeMap<Name, Rank>,
-    uses: &mut BTreeMap<Name, BTreeSet<Name>>,
-    stamp: u64,
-    name: &Name,
-    names: &[Name],
-    refs: &[Name],
-    old: &BTreeSet<Name>,
-) -> Result<Renewed, ObjectFault>
-    requires laid { IsLaid values.now.entries ranks.now.entries names.now }
-    requires refers { spec.RefersTo uses.old.entries name.now old.now.keys }
-    ensures { spec.Prepares values.now.entries ranks.now.entries stamp names.now uses.old.entries uses.new.entries name.now refs.now result }
-{
-    let renewed = renew(alloc, values, ranks, stamp, names)?;
-    match note_refs(alloc, uses, name, refs, old) {
-        Ok(()) => Ok(renewed),
-        Err(_) => Err(ObjectFault::NoMemory),
     }
 }
 
@@ -159,59 +140,125 @@ pub(crate) fn replace_value(
     ensures sound { IsSound values.new.entries kept.new.ranks.entries kept.new.uses.entries kept.new.stamp }
     ensures answer { spec.Replaces values.old.entries values.new.entries (with_entry values.old.entries name.now made) result }
 {
-    let refs = made.share()?;
-    let new_refs = set_of(alloc, refs.refs())?;
+    let new_refs = set_of(alloc, made.refs())?;
+    let Some(totals) = totals_with_refs(alloc, &kept.ranks, &made) else {
+        return Err(ObjectFault::NoMemory);
+    };
+    let renewed = renew(alloc, values, &kept.ranks, kept.stamp, name, totals, names)?;
+    let _fresh = note_refs(alloc, &mut kept.uses, name, made.refs())?;
     let former = put_value(values, name, made);
-    let prepared = prepared(alloc, values, kept, name, &former, refs.refs(), names);
-    match prepared {
-        Ok(renewed) => {
-            settle(
-                &mut kept.ranks,
-                &mut kept.uses,
-                &renewed,
-                name,
-                names,
-                former.refs(),
-                &new_refs,
-            );
-            kept.stamp = renewed.label;
-            Ok(())
-        }
-        Err(fault) => {
-            let _made = put_value(values, name, former);
-            Err(fault)
-        }
+    settle(
+        &mut kept.ranks,
+        &mut kept.uses,
+        &renewed,
+        name,
+        names,
+        former.refs(),
+        &new_refs,
+    );
+    kept.stamp = renewed.label;
+    Ok(())
+}
+
+/// The value of a name that is there.
+pub(crate) fn stated_of<'a>(values: &'a BTreeMap<Name, Stated>, name: &Name) -> &'a Stated
+    requires { is_some (entry_of values.now.entries name.now) ≡ true }
+    ensures { entry_of values.now.entries name.now ≡ Some result.now }
+{
+    match values.get(name) {
+        Some(stated) => stated,
+        None => unreachable!(),
     }
 }
 
-/// The preparation of a change from a former value.
-fn prepared(
+/// Adds members that aren't there to the value of a name that is there. On want of memory all is as before.
+fn grow_at(
+    alloc: Global,
+    values: &mut BTreeMap<Name, Stated>,
+    name: &Name,
+    added: IndexSet<Item>,
+) -> Result<(), AllocError>
+    requires there { is_some (entry_of values.old.entries name.now) ≡ true }
+    requires new { AreNew (items_of values.old.entries name.now) added.keys }
+    ensures ok { OnOk result (values.new.entries ≡ grown_at values.old.entries name.now added.keys) }
+    ensures err { OnErr result (values.new.entries ≡ values.old.entries) }
+{
+    match values.get_mut(name) {
+        Some(stated) => {
+            stated.grow(alloc, added)?;
+            Ok(())
+        }
+        None => unreachable!(),
+    }
+}
+
+/// The names that further members of a name refer to, and the totals that it then has.
+#[derive(Debug, Drop)]
+struct Growth {
+    refs: Vec<Name>,
+    totals: Totals,
+}
+
+/// What further members of a name that is there refer to, and what totals it then has. A total that passes its type's end
+/// counts as want of memory.
+fn growth_of(
     alloc: Global,
     values: &BTreeMap<Name, Stated>,
+    ranks: &BTreeMap<Name, Rank>,
+    name: &Name,
+    added: &[Item],
+) -> Result<Growth, ObjectFault>
+    requires { is_some (entry_of values.now.entries name.now) ≡ true }
+    ensures { spec.Grows values.now.entries ranks.now.entries name.now added.now result }
+{
+    let refs = refs_in(alloc, added)?;
+    let group = group_of(stated_of(values, name).block());
+    match totals_grown(alloc, ranks, name, group, added, refs.as_slice()) {
+        Some(totals) => Ok(Growth { refs, totals }),
+        None => Err(ObjectFault::NoMemory),
+    }
+}
+
+/// Adds members that aren't there to a name that is there and that `names` reach, in the order of their labels. What is done
+/// here costs nothing that grows with the members that the name has. After a refusal all is as before.
+pub(crate) fn grow_value(
+    alloc: Global,
+    values: &mut BTreeMap<Name, Stated>,
     kept: &mut Kept,
     name: &Name,
-    former: &Stated,
-    refs: &[Name],
+    added: IndexSet<Item>,
     names: &[Name],
-) -> Result<Renewed, ObjectFault>
-    requires laid { IsLaid values.now.entries kept.old.ranks.entries names.now }
-    requires refers { spec.RefersTo kept.old.uses.entries name.now (refs_in former.now.items) }
-    ensures answer { spec.Prepares values.now.entries kept.old.ranks.entries kept.old.stamp names.now kept.old.uses.entries kept.new.uses.entries name.now refs.now result }
-    ensures ranks { kept.new.ranks ≡ kept.old.ranks }
-    ensures stamp { kept.new.stamp ≡ kept.old.stamp }
+) -> Result<(), ObjectFault>
+    requires sound { IsSound values.old.entries kept.old.ranks.entries kept.old.uses.entries kept.old.stamp }
+    requires there { is_some (entry_of values.old.entries name.now) ≡ true }
+    requires above { IsAbove values.old.entries kept.old.ranks.entries name.now names.now }
+    requires new { AreNew (items_of values.old.entries name.now) added.keys }
+    requires fits { AllByRecursion (λ i. spec.Fits values.old.entries name.now (named i)) (items_of values.old.entries name.now ++ added.keys) }
+    ensures sound { IsSound values.new.entries kept.new.ranks.entries kept.new.uses.entries kept.new.stamp }
+    ensures answer { spec.Replaces values.old.entries values.new.entries (grown_at values.old.entries name.now added.keys) result }
 {
-    let old = set_of(alloc, former.refs())?;
-    prepare(
+    let growth = growth_of(alloc, values, &kept.ranks, name, added.as_slice())?;
+    let renewed = renew(
         alloc,
         values,
         &kept.ranks,
-        &mut kept.uses,
         kept.stamp,
         name,
+        growth.totals,
         names,
-        refs,
-        &old,
-    )
+    )?;
+    let fresh = note_refs(alloc, &mut kept.uses, name, growth.refs.as_slice())?;
+    match grow_at(alloc, values, name, added) {
+        Ok(()) => {
+            set_ranks(&mut kept.ranks, &renewed.ranks, names);
+            kept.stamp = renewed.label;
+            Ok(())
+        }
+        Err(_) => {
+            forget_refs(alloc, &mut kept.uses, name, fresh.as_slice());
+            Err(ObjectFault::NoMemory)
+        }
+    }
 }
 
 /// A copy of the table; the members of each name are shared.

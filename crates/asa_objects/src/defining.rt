@@ -3,12 +3,15 @@ ghost use Rattle.std.specs.Prelude.{◌≡◌, ℕ, ◌+◌, ◌≤◌, List, []
 ghost use Rattle.asa_objects.specs.Climbing.{IsAbove};
 ghost use Rattle.asa_objects.specs.Defining as spec;
 ghost use Rattle.asa_objects.specs.Drafting as over;
-ghost use Rattle.asa_objects.specs.Ranks.{IsSound, rank_of};
-ghost use Rattle.asa_objects.specs.Tables.{entry_of, items_of};
+ghost use Rattle.asa_objects.specs.Changing.{Fits, Replaces};
+ghost use Rattle.asa_objects.specs.Marks.{AreNew, changed, standing};
+ghost use Rattle.asa_objects.specs.Ranks.{IsSound};
+ghost use Rattle.asa_objects.specs.Tables.{entry_of, items_of, named};
+ghost use Rattle.std.specs.List.{AllByRecursion};
 
-use crate::changing::{Kept, replace_value};
+use crate::changing::{Kept, grow_value, replace_value, stated_of};
 use crate::climbing::above;
-use crate::drafting::Draft;
+use crate::drafting::{Change, Draft};
 use crate::faults::ObjectFault;
 use crate::opening::{close_name, open_name};
 use crate::stating::{inner_lines, missing_column, take_lines};
@@ -17,37 +20,26 @@ use crate::valuing::Stated;
 use asa_base::Name;
 use asa_members::{BlockKind, Item, Top};
 use asa_text::Block;
-use std::alloc::{AllocError, Global};
+use indexmap::IndexSet;
+use std::alloc::Global;
 use std::collections::BTreeMap;
 
-/// Whether an object has no value. A group needs none.
-fn lacks_value(block: BlockKind, items: &[Item]) -> bool
-    ensures { result ≡ spec.lacks_value block items.now }
+/// Whether an object has no value after a change of its former members. A group needs none.
+fn lacks_value(block: BlockKind, former: &IndexSet<Item>, change: &Change) -> bool
+    ensures { result ≡ spec.lacks_value block (changed former.now.keys change.now.gone.keys change.now.added.keys) }
 {
     match block {
         BlockKind::Group(_) => false,
-        BlockKind::NetObject | BlockKind::ServiceObject => items.is_empty(),
+        BlockKind::NetObject | BlockKind::ServiceObject => change.leaves_none(former),
     }
 }
 
-/// The members of a name before its block.
-fn former_of(
-    alloc: Global,
-    values: &BTreeMap<Name, Stated>,
-    name: &Name,
-) -> Result<Draft, AllocError>
-    ensures { IfOk result (λ d. d ≡ items_of values.now.entries name.now) }
-{
-    match values.get(name) {
-        Some(stated) => Draft::from_stated(alloc, stated),
-        None => Ok(Draft::new(alloc)),
-    }
-}
-
-/// What the lines of a block make of the members of a name, and the names that reach that name.
+/// What the lines of a block do to the members of a name, whether the name then lacks a value, and the names that reach
+/// that name.
 #[derive(Debug, Drop)]
 struct Drafted {
-    draft: Draft,
+    change: Change,
+    lacks: bool,
     names: Vec<Name>,
 }
 
@@ -60,7 +52,7 @@ fn read_lines(
     top: &Top,
 ) -> Result<Drafted, ObjectFault>
     requires sound { IsSound values.now.entries kept.now.ranks.entries kept.now.uses.entries kept.now.stamp }
-    requires there { is_some (rank_of kept.now.ranks.entries top.now.name) ≡ true }
+    requires there { is_some (entry_of values.now.entries top.now.name) ≡ true }
     ensures value { over.Drafteds values.now.entries kept.now.ranks.entries block.now top.now result }
 {
     let names = above(
@@ -72,17 +64,58 @@ fn read_lines(
         &top.name,
     )?;
     let reaching = set_of(alloc, names.as_slice())?;
-    let former = former_of(alloc, values, &top.name)?;
-    let draft = take_lines(
+    let stated = stated_of(values, &top.name);
+    let mut draft = Draft::new(alloc, stated);
+    take_lines(
         alloc,
         values,
         &top.name,
         top.block,
         &reaching,
-        former,
+        &mut draft,
         inner_lines(block),
     )?;
-    Ok(Drafted { draft, names })
+    let change = draft.into_change();
+    let lacks = lacks_value(top.block, stated.set(), &change);
+    Ok(Drafted {
+        change,
+        lacks,
+        names,
+    })
+}
+
+/// Whether a change of a value only adds members.
+fn only_adds(stated: &Stated, block: BlockKind, change: &Change) -> bool
+    ensures gone { result ≡ true → change.now.gone.keys ≡ [] }
+    ensures block { result ≡ true → stated.now.block ≡ block }
+{
+    change.gone.as_slice().is_empty() && stated.block() == block
+}
+
+/// Takes a change of the members of a name that is in the table. After a refusal all is as before.
+fn take_change(
+    alloc: Global,
+    values: &mut BTreeMap<Name, Stated>,
+    kept: &mut Kept,
+    top: &Top,
+    change: Change,
+    names: &[Name],
+) -> Result<(), ObjectFault>
+    requires sound { IsSound values.old.entries kept.old.ranks.entries kept.old.uses.entries kept.old.stamp }
+    requires there { is_some (entry_of values.old.entries top.now.name) ≡ true }
+    requires above { IsAbove values.old.entries kept.old.ranks.entries top.now.name names.now }
+    requires new { AreNew (standing (items_of values.old.entries top.now.name) change.gone.keys) change.added.keys }
+    requires fits { AllByRecursion (λ i. Fits values.old.entries top.now.name (named i)) (over.after_change values.old.entries top.now.name change) }
+    ensures sound { IsSound values.new.entries kept.new.ranks.entries kept.new.uses.entries kept.new.stamp }
+    ensures answer { Replaces values.old.entries values.new.entries (over.taken values.old.entries top.now change) result }
+{
+    let stated = stated_of(values, &top.name);
+    if only_adds(stated, top.block, &change) {
+        return grow_value(alloc, values, kept, &top.name, change.added, names);
+    }
+    let items = change.of(stated.set())?;
+    let made = Stated::new(alloc, top.block, items)?;
+    replace_value(alloc, values, kept, &top.name, made, names)
 }
 
 /// Takes the block of a name that is in the table. After a refusal all is as before.
@@ -99,9 +132,12 @@ pub(crate) fn change_value(
     ensures answer { spec.Defines result values.old.entries values.new.entries (spec.changed_by values.old.entries block.now top.now) }
 {
     let read = read_lines(alloc, values, kept, block, top)?;
-    let Drafted { draft, names } = read;
-    let items = draft.into_items();
-    if lacks_value(top.block, items.as_slice()) {
+    let Drafted {
+        change,
+        lacks,
+        names,
+    } = read;
+    if lacks {
         return Err(ObjectFault::Bad {
             line: 1,
             column: missing_column(block),
@@ -110,8 +146,7 @@ pub(crate) fn change_value(
     if values.len() > 16384 {
         return Err(ObjectFault::TooMany);
     }
-    let made = Stated::new(alloc, top.block, items)?;
-    replace_value(alloc, values, kept, &top.name, made, names.as_slice())
+    take_change(alloc, values, kept, top, change, names.as_slice())
 }
 
 /// Takes the block of a name that isn't in the table. After a refusal all is as before.

@@ -4,6 +4,7 @@ ghost use Rattle.asa_text.specs.Words.{line_left};
 ghost use Rattle.asa_members.specs.Groups.{statement_at};
 ghost use Rattle.asa_members.specs.Tops.{top_at};
 ghost use Rattle.asa_objects.specs.Defining as spec;
+ghost use Rattle.asa_objects.specs.Marks.{marked};
 ghost use Rattle.asa_objects.specs.Ranks.{has_name};
 ghost use Rattle.asa_objects.specs.Tables.{known_of, reaches};
 
@@ -109,15 +110,16 @@ fn take_statement(
     name: &Name,
     reaching: &BTreeSet<Name>,
     line: u32,
-    draft: &mut Draft,
+    draft: &mut Draft<'_>,
     statement: Statement,
 ) -> Result<(), ObjectFault>
     requires { (q : List ℕ) → has_name reaching.now.keys q ≡ reaches values.now.entries q name.now }
-    ensures { spec.Takes result draft.new (spec.stated values.now.entries name.now line draft.old statement) }
+    ensures members { spec.Takes result (marked draft.new) (spec.stated values.now.entries name.now line (marked draft.old) statement) }
+    ensures former { draft.new.former ≡ draft.old.former }
 {
     match statement {
         Statement::Value(value) => {
-            *draft = Draft::of(alloc, item_of_value(value))?;
+            draft.set(alloc, item_of_value(value))?;
             Ok(())
         }
         Statement::Member(item) => {
@@ -147,11 +149,12 @@ fn take_line(
     block: BlockKind,
     reaching: &BTreeSet<Name>,
     n: u32,
-    draft: &mut Draft,
+    draft: &mut Draft<'_>,
     line: &Line,
 ) -> Result<(), ObjectFault>
     requires { (q : List ℕ) → has_name reaching.now.keys q ≡ reaches values.now.entries q name.now }
-    ensures { spec.Takes result draft.new (spec.after_line values.now.entries name.now block n draft.old line.now) }
+    ensures members { spec.Takes result (marked draft.new) (spec.after_line values.now.entries name.now block n (marked draft.old) line.now) }
+    ensures former { draft.new.former ≡ draft.old.former }
 {
     let statement = statement_of(values, block, n, line)?;
     take_statement(alloc, values, name, reaching, n, draft, statement)
@@ -165,14 +168,14 @@ pub(crate) fn take_lines(
     name: &Name,
     block: BlockKind,
     reaching: &BTreeSet<Name>,
-    members: Draft,
+    draft: &mut Draft<'_>,
     lines: &[Line],
-) -> Result<Draft, ObjectFault>
+) -> Result<(), ObjectFault>
     requires reaching { (q : List ℕ) → has_name reaching.now.keys q ≡ reaches values.now.entries q name.now }
     requires few { length lines.now + 1 < 2 ^ 32 - 1 }
-    ensures { spec.Drafts result (spec.after_lines values.now.entries name.now block 2 members lines.now) }
+    ensures members { spec.Takes result (marked draft.new) (spec.after_lines values.now.entries name.now block 2 (marked draft.old) lines.now) }
+    ensures former { draft.new.former ≡ draft.old.former }
 {
-    let mut draft = members;
     for (i, line) in lines.iter().enumerate() {
         take_line(
             alloc,
@@ -181,9 +184,9 @@ pub(crate) fn take_lines(
             block,
             reaching,
             i as u32 + 2,
-            &mut draft,
+            draft,
             line,
         )?;
     }
-    Ok(draft)
+    Ok(())
 }

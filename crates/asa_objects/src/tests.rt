@@ -494,6 +494,118 @@ fn groups_that_are_reached_in_many_ways_are_visited_once(rt: HostRuntime) -> Res
     Ok(())
 }
 
+/// Whether a name stands for the hosts 10.0.0.n of these numbers, in their order.
+fn has_hosts(alloc: Global, objects: &Objects, group: &[u8], numbers: &[u8]) -> Result<bool, Fail> {
+    let members = objects.members(alloc, &name(group)?)?;
+    let mut hosts = Vec::new(alloc);
+    for number in numbers {
+        hosts.push(Member::Host(Addr(0x0a00_0000 | u32::from(*number))))?;
+    }
+    Ok(members.as_slice() == hosts.as_slice())
+}
+
+#[test]
+fn a_group_grows_block_by_block_and_a_copy_stays(rt: HostRuntime) -> Result<(), Fail> {
+    let mut objects = table(
+        rt.alloc(),
+        b"object network A\n host 10.0.0.1\nobject-group network G\n network-object host 10.0.0.9\nobject-group network O\n group-object G\n network-object host 10.0.0.3\n",
+    )?;
+    let first = take(
+        rt.alloc(),
+        &mut objects,
+        b"object-group network G\n network-object host 10.0.0.8\n network-object object A\n",
+    )?;
+    assert_eq!(rt; first, Ok(()));
+    let copy = objects.copy()?;
+    let second = take(
+        rt.alloc(),
+        &mut objects,
+        b"object-group network G\n network-object host 10.0.0.7\nobject-group network G\n network-object host 10.0.0.6\n",
+    )?;
+    assert_eq!(rt; second, Ok(()));
+    assert!(rt; has_hosts(rt.alloc(), &objects, b"O", &[9, 8, 1, 7, 6, 3])?);
+    assert!(rt; has_hosts(rt.alloc(), &copy, b"O", &[9, 8, 1, 3])?);
+    assert_eq!(rt; objects.member_count(&name(b"G")?), 5);
+    assert_eq!(rt; objects.prefix_total(&name(b"O")?), 6);
+    assert_eq!(rt; copy.member_count(&name(b"G")?), 3);
+    assert_eq!(rt; copy.prefix_total(&name(b"O")?), 4);
+    assert!(rt; objects.is_used(&name(b"A")?));
+    let gone = take(
+        rt.alloc(),
+        &mut objects,
+        b"object-group network G\n no network-object object A\n",
+    )?;
+    assert_eq!(rt; gone, Ok(()));
+    assert!(rt; !objects.is_used(&name(b"A")?));
+    assert!(rt; copy.is_used(&name(b"A")?));
+    assert!(rt; has_hosts(rt.alloc(), &objects, b"G", &[9, 8, 7, 6])?);
+    Ok(())
+}
+
+#[test]
+fn a_refused_growth_leaves_all(rt: HostRuntime) -> Result<(), Fail> {
+    let mut objects = levels(rt.alloc(), 16, b"\n network-object host 10.0.0.1")?;
+    let empty = take(rt.alloc(), &mut objects, b"object-group network x\n")?;
+    assert_eq!(rt; empty, Ok(()));
+    let copy = objects.copy()?;
+    let many = take(
+        rt.alloc(),
+        &mut objects,
+        b"object-group network a0\n group-object x\n network-object host 10.0.0.2\n",
+    )?;
+    assert_eq!(rt; many, Err(ObjectFault::TooMany));
+    assert!(rt; !objects.is_used(&name(b"x")?));
+    assert!(rt; has_hosts(rt.alloc(), &objects, b"a0", &[1])?);
+    assert_eq!(rt; objects.member_count(&name(b"a16")?), 65536);
+    let fits = take(
+        rt.alloc(),
+        &mut objects,
+        b"object-group network a0\n group-object x\n",
+    )?;
+    assert_eq!(rt; fits, Ok(()));
+    let cycle = take(
+        rt.alloc(),
+        &mut objects,
+        b"object-group network x\n network-object host 10.0.0.2\n group-object b16\n",
+    )?;
+    assert_eq!(rt; cycle, Err(ObjectFault::Cycle { line: 3 }));
+    assert!(rt; objects.is_used(&name(b"x")?));
+    assert!(rt; !copy.is_used(&name(b"x")?));
+    assert!(rt; has_hosts(rt.alloc(), &objects, b"x", &[])?);
+    assert_eq!(rt; objects.member_count(&name(b"b16")?), 65536);
+    Ok(())
+}
+
+#[test]
+fn a_member_that_comes_back_is_the_last(rt: HostRuntime) -> Result<(), Fail> {
+    let mut objects = table(
+        rt.alloc(),
+        b"object-group network G\n network-object host 10.0.0.1\n network-object host 10.0.0.2\n network-object host 10.0.0.3\n",
+    )?;
+    let back = take(
+        rt.alloc(),
+        &mut objects,
+        b"object-group network G\n no network-object host 10.0.0.1\n network-object host 10.0.0.4\n network-object host 10.0.0.1\n",
+    )?;
+    assert_eq!(rt; back, Ok(()));
+    assert!(rt; has_hosts(rt.alloc(), &objects, b"G", &[2, 3, 4, 1])?);
+    let gone = take(
+        rt.alloc(),
+        &mut objects,
+        b"object-group network G\n no network-object host 10.0.0.3\n network-object host 10.0.0.3\n no network-object host 10.0.0.3\n",
+    )?;
+    assert_eq!(rt; gone, Ok(()));
+    assert!(rt; has_hosts(rt.alloc(), &objects, b"G", &[2, 4, 1])?);
+    let twice = take(
+        rt.alloc(),
+        &mut objects,
+        b"object-group network G\n network-object host 10.0.0.5\n network-object host 10.0.0.6\n no network-object host 10.0.0.5\n network-object host 10.0.0.5\n",
+    )?;
+    assert_eq!(rt; twice, Ok(()));
+    assert!(rt; has_hosts(rt.alloc(), &objects, b"G", &[2, 4, 1, 6, 5])?);
+    Ok(())
+}
+
 #[test]
 fn a_table_takes_16384_names(rt: HostRuntime) -> Result<(), Fail> {
     let mut text = Vec::new(rt.alloc());

@@ -1,14 +1,15 @@
 //! New labels and totals of the names that reach a name whose members have changed.
-ghost use Rattle.std.specs.Prelude.{◌≡◌, ℕ, ◌+◌, ◌≤◌, ◌<◌, ◌&&◌, nat_le, List, cond, Some, IfSome, IfOk, IfErr, OnOk};
+ghost use Rattle.std.specs.Prelude.{◌≡◌, ℕ, ◌+◌, ◌≤◌, ◌<◌, ◌&&◌, nat_le, List, [], true, false, cond, Some, IfSome, IfOk, IfErr, OnOk};
 ghost use Rattle.asa_objects.specs.declared.faults.ObjectFault.TheVariants as fault;
 ghost use Rattle.asa_objects.specs.Ranks as spec;
-ghost use Rattle.asa_objects.specs.Tables.{group_of, same_name};
+ghost use Rattle.asa_objects.specs.Tables.{Table, group_of, same_name};
 ghost use Rattle.asa_objects.specs.Totalling as total;
 
 use crate::faults::ObjectFault;
-use crate::ranking::{Rank, Totals};
-use crate::valuing::Stated;
+use crate::ranking::{Rank, Totals, totals_of};
+use crate::valuing::{Stated, totals_in};
 use asa_base::Name;
+use asa_members::{GroupKind, Item};
 use std::alloc::Global;
 use std::collections::BTreeMap;
 
@@ -59,6 +60,46 @@ fn sums_of(
     stated.own().plus(refs)
 }
 
+/// The totals of a value from those that the names which its members refer to have now.
+pub(crate) fn totals_with_refs(
+    alloc: Global,
+    ranks: &BTreeMap<Name, Rank>,
+    stated: &Stated,
+) -> Option<Totals>
+    ensures { IfSome result (λ t. t ≡ spec.both_totals (spec.totals_in (group_of stated.now.block) stated.now.items) (total.ref_totals [] ranks.now.entries (spec.refs_in stated.now.items))) }
+{
+    let none = BTreeMap::new(alloc);
+    sums_of(ranks, &none, stated)
+}
+
+/// The totals of a name with further members, which refer to these names.
+pub(crate) fn totals_grown(
+    alloc: Global,
+    ranks: &BTreeMap<Name, Rank>,
+    name: &Name,
+    group: GroupKind,
+    added: &[Item],
+    refs: &[Name],
+) -> Option<Totals>
+    ensures { IfSome result (λ t. t ≡ spec.both_totals (total.totals_in_rank (spec.rank_of ranks.now.entries name.now)) (spec.both_totals (spec.totals_in group added.now) (total.ref_totals [] ranks.now.entries refs.now))) }
+{
+    let none = BTreeMap::new(alloc);
+    let own = totals_in(group, added)?;
+    let more = own.plus(ref_totals(ranks, &none, refs)?)?;
+    totals_of(ranks, name).plus(more)
+}
+
+/// These totals, where they are within the limit.
+fn limited(totals: Totals) -> Result<Totals, ObjectFault>
+    ensures { total.Limits totals result }
+{
+    if is_small(totals) {
+        Ok(totals)
+    } else {
+        Err(ObjectFault::TooMany)
+    }
+}
+
 /// The totals of a name from those of the names that its members refer to. A total that passes its type's end counts as
 /// want of memory.
 fn sums(
@@ -82,6 +123,31 @@ fn sums(
     }
 }
 
+/// Whether two names are the same.
+fn is_same(a: &Name, b: &Name) -> bool
+    ensures { result ≡ same_name a.now b.now }
+{
+    a.cmp(b).is_eq()
+}
+
+/// The new totals of a name: those that are told, where it is the name whose value changes.
+fn totals_for(
+    values: &BTreeMap<Name, Stated>,
+    ranks: &BTreeMap<Name, Rank>,
+    new: &BTreeMap<Name, Rank>,
+    changed: &Name,
+    told: Totals,
+    name: &Name,
+) -> Result<Totals, ObjectFault>
+    ensures told { same_name changed.now name.now ≡ true → total.Limits told result }
+    ensures other { same_name changed.now name.now ≡ false → total.Sums values.now.entries new.now.entries ranks.now.entries name.now result }
+{
+    if is_same(changed, name) {
+        return limited(told);
+    }
+    sums(values, ranks, new, name)
+}
+
 /// New ranks of names.
 #[derive(Debug, Drop)]
 pub(crate) struct Renewed {
@@ -91,22 +157,23 @@ pub(crate) struct Renewed {
     pub(crate) label: u64,
 }
 
-/// New ranks of names, in their order, each from those that are new already. A name with too many members is TooMany.
-/// Labels that come to their type's end count as want of memory.
+/// New ranks of names, in their order, each from those that are new already; the totals of the name whose value changes are
+/// told. A name with too many members is TooMany. Labels that come to their type's end count as want of memory.
 pub(crate) fn renew(
     alloc: Global,
     values: &BTreeMap<Name, Stated>,
     ranks: &BTreeMap<Name, Rank>,
     stamp: u64,
+    changed: &Name,
+    told: Totals,
     names: &[Name],
 ) -> Result<Renewed, ObjectFault>
-    requires { total.IsLaid values.now.entries ranks.now.entries names.now }
-    ensures { total.Renews values.now.entries ranks.now.entries stamp names.now result }
+    ensures { (after : Table) → total.IsTold values.now.entries after ranks.now.entries changed.now told names.now → total.Renews after ranks.now.entries stamp names.now result }
 {
     let mut new = BTreeMap::new(alloc);
     let mut label = stamp;
     for name in names {
-        let totals = sums(values, ranks, &new, name)?;
+        let totals = totals_for(values, ranks, &new, changed, told, name)?;
         put_rank(&mut new, name, Rank { label, totals })?;
         label = next_label(label)?;
     }

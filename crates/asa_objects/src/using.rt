@@ -4,7 +4,7 @@ ghost use Rattle.std.specs.Ordering.{is_gt, nat_cmp};
 ghost use Rattle.std.specs.Cmp.Lexicographic.{slice_cmp};
 ghost use Rattle.asa_objects.specs.Ranks.{has_name, users_of};
 ghost use Rattle.asa_objects.specs.Tables.{same_name};
-ghost use Rattle.asa_objects.specs.Using.{AreUsed, AreUnused, IsPartUsed};
+ghost use Rattle.asa_objects.specs.Using.{AreUsed, AreUnused, IsPartUsed, unused_in};
 
 use asa_base::Name;
 use std::alloc::{AllocError, Global};
@@ -47,6 +47,34 @@ fn add_use(
     let users = alone(alloc, user)?;
     uses.insert(name.copy(), users)?;
     Ok(())
+}
+
+/// Whether a name refers to another.
+fn is_used_by(uses: &BTreeMap<Name, BTreeSet<Name>>, name: &Name, user: &Name) -> bool
+    ensures { result ≡ has_name (users_of uses.now.entries name.now) user.now }
+{
+    match uses.get(name) {
+        Some(users) => users.contains(user),
+        None => false,
+    }
+}
+
+/// Those of some names that a name doesn't refer to yet.
+pub(crate) fn unused_of(
+    alloc: Global,
+    uses: &BTreeMap<Name, BTreeSet<Name>>,
+    names: &[Name],
+    user: &Name,
+) -> Result<Vec<Name>, AllocError>
+    ensures { IfOk result (λ v. v.items ≡ unused_in uses.now.entries names.now user.now) }
+{
+    let mut unused = Vec::new(alloc);
+    for name in names {
+        if !is_used_by(uses, name, user) {
+            unused.push(name.copy())?;
+        }
+    }
+    Ok(unused)
 }
 
 /// Notes that a name no longer refers to another.
