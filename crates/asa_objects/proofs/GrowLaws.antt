@@ -1,10 +1,9 @@
 -- A name's value grows, or is changed otherwise: the totals that it then has, and who uses what.
-use Rattle.std.proofs.Common.{◌≡◌, ℕ, ◌+◌, ◌<◌, ◌⊎◌, inl, inr, Bool, true, false, cond, not, ◌||◌, ◌&&◌, List, [], ◌∷◌, ◌++◌, take, drop, Option, Some, None, Result, Ok, Err, is_some, refl, sym, ap, subst, ◌∙◌, append_assoc, arith}
+use Rattle.std.proofs.Common.{◌≡◌, ℕ, ◌+◌, ◌<◌, ◌⊎◌, inl, inr, Bool, true, false, cond, not, ◌||◌, ◌&&◌, List, [], ◌∷◌, ◌++◌, take, drop, Option, Some, None, Result, Ok, Err, is_some, refl, sym, ap, subst, ◌∙◌, append_assoc}
 use Rattle.std.specs.List.{AllByRecursion, filter, list_any}
 use Rattle.std.specs.Option.{option_to_list}
 use Rattle.std.proofs.lemmas.Bool.{false≢true}
 use Rattle.std.proofs.lemmas.List.{take-append-drop}
-use Rattle.asa_members.specs.declared.blocking.BlockKind.{BlockKind}
 use Rattle.asa_members.specs.declared.blocking.GroupKind.{GroupKind}
 use Rattle.asa_members.specs.declared.stating.Item.{Item}
 use Rattle.asa_objects.specs.Amounts.{Amounts}
@@ -14,12 +13,11 @@ use Rattle.asa_objects.specs.declared.faults.ObjectFault.{ObjectFault}
 use Rattle.asa_objects.specs.declared.faults.ObjectFault.TheVariants as fault
 use Rattle.asa_objects.specs.Spreads.{total, weight_of}
 use Rattle.asa_objects.specs.Tables.{Entry, Table, entry_of, group_at, group_of, grown, grown_in, grown_at, items_in, items_of, named, refers_to, same_name, with_entry}
-use Rattle.asa_objects.specs.Ranks.{IsSound, Part, members, prefixes, services, amount, amount_in, amount_of, Ranks, Uses, rank_of, users_of, has_name, weigh, own_totals, totals_in, both_totals, refs_in}
+use Rattle.asa_objects.specs.Ranks.{IsSound, Part, members, services, amount, amount_in, amount_of, Ranks, Uses, rank_of, users_of, has_name, weigh, own_totals, totals_in, both_totals, refs_in}
 use Rattle.asa_objects.specs.Climbing.{IsAbove}
-use Rattle.asa_objects.specs.Totalling.{newer, amount_now, totals_in_rank, ref_totals, summed, AreSums, IsOver, IsRenewed, AreSmall, IsApart, IsTold, Limits, Sums, Renews}
+use Rattle.asa_objects.specs.Totalling.{newer, amount_now, totals_in_rank, ref_totals, summed, AreSums, IsOver, IsRenewed, IsApart, IsTold, Limits, Sums, Renews}
 use Rattle.asa_objects.specs.Using.{AreUsed, AreUnused, IsPartUsed, unused_in}
 use Rattle.asa_objects.specs.Changing.{Fits, SameUsers, Replaces}
-use Rattle.asa_objects.specs.Defining.{are_small}
 use Rattle.asa_objects.proofs.LabelLaws.{same-is, same-self}
 use Rattle.asa_objects.proofs.SpreadLaws.{total-append}
 use Rattle.asa_objects.proofs.ReachLaws.{any-append}

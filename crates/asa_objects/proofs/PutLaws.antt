@@ -5,14 +5,13 @@ use Rattle.std.specs.List.Sorted.{IsStrictlySortedBy}
 use Rattle.std.proofs.lemmas.Map.Keys.{sorted_tail}
 use Rattle.std.proofs.lemmas.Map.Entries.{lookup_at_gap}
 use Rattle.asa_members.specs.declared.stating.Item.{Item}
-use Rattle.std.specs.BTreeMap.{BTreeMap, is_at, insert_entry, IsOrdered}
+use Rattle.std.specs.BTreeMap.{is_at, insert_entry}
 use Rattle.std.specs.Map.{remove_entry}
 use Rattle.std.specs.Ordering.{nat_cmp, match_ordering, is_eq}
 use Rattle.std.specs.declared.cmp.Ordering.{Ordering}
 use Rattle.std.specs.declared.cmp.Ordering.TheVariants as cmp
 use Rattle.std.specs.Cmp.Lexicographic.{slice_cmp}
 use Rattle.std.proofs.lemmas.Cmp.{nat_list_cmp_total}
-use Rattle.std.proofs.lemmas.Map.Lookups.{exact_bytes, btree_map_from_get}
 use Rattle.asa_objects.specs.declared.ranking.Rank.{Rank}
 use Rattle.asa_objects.specs.Tables.{Entry, Table, entry_of, grown, grown_at, grown_in, same_name, with_entry}
 use Rattle.asa_objects.specs.Ranks.{Ranks, rank_of, has_name}

@@ -219,8 +219,8 @@ fn growth_of(
     }
 }
 
-/// Adds members that aren't there to a name that is there and that `names` reach, in the order of their labels. What is done
-/// here costs nothing that grows with the members that the name has. After a refusal all is as before.
+/// Adds members that aren't there to a name that is there and that `names` reach, in the order of their labels. Unless a copy
+/// shares the members that the name has, this costs nothing that grows with them. After a refusal all is as before.
 pub(crate) fn grow_value(
     alloc: Global,
     values: &mut BTreeMap<Name, Stated>,
