@@ -1,5 +1,5 @@
 -- Access lists: a name and lines in order. Lines are numbered from 1, and remarks count.
-use Rattle.std.specs.Prelude.{ℕ, ◌-◌, Bool, List, length, insert, remove, position, filter, sum_by, min, ◌≡◌, Option, Some, None}
+use Rattle.std.specs.Prelude.{◌≡◌, ℕ, ◌-◌, Bool, ◌==◌, List, length, insert, remove, slice_get, position, filter, sum_by, min, Option, Some, None, if◌then◌else◌}
 use Rattle.std.specs.List.{list_any}
 use Rattle.asa_ace.specs.declared.stating.AclLine.{AclLine}
 use Rattle.asa_ace.specs.Lines.{line_eq, line_uses}
@@ -30,6 +30,10 @@ without lines (Some i) = remove lines i
 -- the list without its first line that is equal to this one
 unfoldable pub without_equal : AccessLines → AclLine → AccessLines
 without_equal acl item = record acl { lines = without acl.lines (place_of_equal item acl.lines) }
+
+-- line n
+abbrev pub line_at : ℕ → List AclLine → Option AclLine
+line_at n lines = if n == 0 then None else slice_get lines (n - 1)
 
 -- some line uses the object or group of this name
 unfoldable pub list_uses : List ℕ → AccessLines → Bool

@@ -103,6 +103,17 @@ impl Acl {
         self.lines.len() as u32
     }
 
+    /// Line n, counted from 1, or None exactly where there is none.
+    pub fn get(&self, line: u32) -> Option<&AclLine>
+        ensures { option_copied result ≡ spec.line_at line self.now.lines }
+    {
+        if line == 0 {
+            return None;
+        }
+        let held = self.lines.get((line - 1) as usize)?;
+        Some(held.line())
+    }
+
     /// Puts a line before the present line n; without n, and past the end, it goes last. After a refusal the list is as
     /// it was.
     #[tactic(auto, unfolding(crate::specs::Lists::with_line))]

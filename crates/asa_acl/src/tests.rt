@@ -48,11 +48,9 @@ fn a_line_goes_before_the_line_with_its_number(rt: HostRuntime) -> Result<(), Fa
     assert_eq!(rt; number_of(&list, 30), Some(3));
     assert_eq!(rt; number_of(&list, 20), Some(4));
     assert_eq!(rt; number_of(&list, 40), Some(5));
-    assert!(rt;
-        list.lines()
-            .first()
-            .is_some_and(|held| matches!(held.line(), AclLine::Remark(_)))
-    );
+    assert!(rt; list.get(1).is_some_and(|l| matches!(l, AclLine::Remark(_))));
+    assert!(rt; list.get(0).is_none());
+    assert!(rt; list.get(6).is_none());
     assert_eq!(rt; list.name().bytes(), b"OUT".as_slice());
     Ok(())
 }

@@ -1,4 +1,4 @@
-use Rattle.std.proofs.Common.{◌≡◌, ◌≤◌, true, cond, length, sym, ap, ◌∙◌, arith, rules}
+use Rattle.std.proofs.Common.{◌≤◌, true, cond, length, sym, ap, ◌∙◌, arith, rules}
 use Rattle.std.proofs.lemmas.List.{take_all}
 use Rattle.asa_boxes.specs.Meanings.{Meanings}
 use Rattle.asa_objects.specs.Ranks.{has_name}
@@ -18,9 +18,9 @@ loop-name-init c = (
 pub loop-name-preserved : goal.loop-name-preserved
 loop-name-preserved c = (
   used_next (meanings_in c.args.scope.now.objects.now c.args.scope.now.ifaces.now) c.args.names.now c.loop-name.earlier.keys c.loop-name.name-index c.name-item.result c.name-item.result c.args.acl.now.lines
-  c.loop-name.sum c.in_ok-further_pairs.field-0 c.in_ok-sum.sum (omega arith) (search rules) c.loop-name.invariant.0 c.loop-name.invariant.1 c.in_ok-further_pairs.ensures c.in_ok-sum.ensures,
+      c.loop-name.sum c.in_ok-further_pairs.field-0 c.in_ok-sum.sum (omega arith) (search rules) c.loop-name.invariant.0 c.loop-name.invariant.1 c.in_ok-further_pairs.ensures c.in_ok-sum.ensures,
   set-more c.loop-name.earlier c.insert.new.self c.args.names.now c.loop-name.name-index c.name-item.result (omega arith) (search rules) c.loop-name.invariant.1
-  (λ q. c.in_ok-insert.ensures.updates.0 q ∙ ap (λ k. cond (same_name k q) true (has_name c.loop-name.earlier.keys q)) c.copy.ensures),
+      (λ q. c.in_ok-insert.ensures.updates.0 q ∙ ap (λ k. cond (same_name k q) true (has_name c.loop-name.earlier.keys q)) c.copy.ensures),
 )
 
 pub returns : goal.returns

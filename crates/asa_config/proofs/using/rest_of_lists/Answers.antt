@@ -1,4 +1,3 @@
-use Rattle.std.proofs.Common.{◌≡◌, ap, ◌∙◌}
 use Rattle.asa_config.specs.Knowing.{meanings_in}
 use Rattle.asa_config.specs.Using.{rest_pairs}
 use Rattle.asa_config.proofs.RecountLaws.{mapped_more}

@@ -1,6 +1,5 @@
-use Rattle.std.proofs.Common.{◌≡◌, ap, ◌∙◌}
+use Rattle.std.proofs.Common.{ap, ◌∙◌}
 use Rattle.asa_boxes.specs.Meanings.{Meanings}
-use Rattle.asa_boxes.specs.Pairs.{list_pairs}
 use Rattle.asa_config.specs.Knowing.{meanings_in}
 use Rattle.asa_config.specs.Using.{used_pairs}
 use Rattle.asa_config.proofs.UsingLaws.{rest_told}

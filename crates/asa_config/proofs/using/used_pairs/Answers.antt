@@ -1,4 +1,4 @@
-use Rattle.std.proofs.Common.{◌≡◌, IfOk, subst, ap, ◌∙◌}
+use Rattle.std.proofs.Common.{ap, ◌∙◌}
 use Rattle.asa_boxes.specs.Meanings.{Meanings}
 use Rattle.asa_config.specs.Knowing.{meanings_in}
 use Rattle.asa_config.specs.Using.{used_pairs}

@@ -1,4 +1,4 @@
-use Rattle.std.proofs.Common.{◌≡◌, ◌≤◌, ℕ, List, false, not, Ok, Err, refl, subst, sym, ap, ◌∙◌, rules}
+use Rattle.std.proofs.Common.{◌≡◌, ◌≤◌, false, Ok, Err, refl, subst, sym, rules}
 use Rattle.asa_objects.specs.Defining.{defined}
 use Rattle.asa_objects.specs.Keeping.{KeepsOthers}
 use Rattle.asa_config.specs.contracts.configuring.Config.{the_view}

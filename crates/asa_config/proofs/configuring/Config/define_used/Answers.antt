@@ -1,4 +1,4 @@
-use Rattle.std.proofs.Common.{◌≡◌, ◌≤◌, ℕ, List, map, Ok, Err, refl, subst, sym, ap, ◌∙◌, rules}
+use Rattle.std.proofs.Common.{◌≡◌, ℕ, List, map, Ok, Err, subst, sym, ap, ◌∙◌, rules}
 use Rattle.asa_objects.specs.Defining.{defined}
 use Rattle.asa_objects.specs.Keeping.{ForName, KeepsOthers}
 use Rattle.asa_objects.specs.Ranks.{has_name}
@@ -11,7 +11,7 @@ use Rattle.asa_config.specs.Objects.{object_step, with_objects}
 use Rattle.asa_config.specs.Settings.{Settings}
 use Rattle.asa_config.specs.Lists.{with_lists}
 use Rattle.asa_config.specs.Using.{rest_pairs, KeepsBut}
-use Rattle.asa_config.proofs.ObjectLaws.{few_used, kept_objects, made_used, others_keep, refused_object, refused_used, when_taken}
+use Rattle.asa_config.proofs.ObjectLaws.{few_used, made_used, others_keep, refused_object, refused_used, when_taken}
 use Rattle.asa_config.proofs.UsingLaws.{rests_same}
 use Rattle.asa_config.proofs.configuring.Config.define_used.Goals as goal
 

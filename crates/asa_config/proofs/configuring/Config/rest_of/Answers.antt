@@ -1,4 +1,4 @@
-use Rattle.std.proofs.Common.{◌≡◌, map, ap, ◌∙◌}
+use Rattle.std.proofs.Common.{map, ap, ◌∙◌}
 use Rattle.asa_config.specs.Counted.{lists_in}
 use Rattle.asa_config.specs.Knowing.{meanings_in}
 use Rattle.asa_config.specs.Settings.{Settings}
