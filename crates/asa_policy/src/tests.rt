@@ -25,22 +25,22 @@ const INSIDE: u8 = 1;
 
 const DMZ: u8 = 2;
 
-fn configure(alloc: Global, config: &mut Config, text: &[u8]) -> Result<(), Fail>
+fn configured(alloc: Global, config: Config, text: &[u8]) -> Result<Config, Fail>
     requires { length text.now < 2000 }
 {
     let blocks = cut_blocks(alloc, text, 1)??;
+    let mut config = config;
     for block in blocks.as_slice() {
         config = config.step(block, true)?;
     }
-    Ok(())
+    Ok(config)
 }
 
 fn compiled(alloc: Global, more: &[u8]) -> Result<Policy, Fail>
     requires { length more.now < 2000 }
 {
-    let mut config = Config::empty(alloc);
-    configure(alloc, &mut config, FIVE_INTERFACES)?;
-    configure(alloc, &mut config, more)?;
+    let config = configured(alloc, Config::empty(alloc), FIVE_INTERFACES)?;
+    let config = configured(alloc, config, more)?;
     Ok(compile(alloc, &config)?)
 }
 
