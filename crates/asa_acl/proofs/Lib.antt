@@ -1,3 +1,3 @@
 mod KeepLaws
 mod LineLaws
-mod UseLaws
+pub mod UseLaws

@@ -22,7 +22,8 @@ any_of_five false false false true e = refl
 any_of_five false false false false true = refl
 any_of_five false false false false false = refl
 
-uses_places : (n : List ℕ) (a : Ace) → ace_uses n a ≡ stands_at n (places a)
+-- an entry uses a name exactly where it stands at one of its places
+pub uses_places : (n : List ℕ) (a : Ace) → ace_uses n a ≡ stands_at n (places a)
 unfolding ace_uses
 uses_places n a = any_of_five (is_named n (service_name a.service)) (is_named n (source_ports_name a.service)) (is_named n (dest_ports_name a.service))
     (is_named n (address_name a.source)) (is_named n (address_name a.dest))

@@ -27,6 +27,10 @@ abbrev pub without : List AclLine → Option ℕ → List AclLine
 without lines None = lines
 without lines (Some i) = remove lines i
 
+-- the list without the line at a place
+abbrev pub without_at : AccessLines → ℕ → AccessLines
+without_at acl i = record acl { lines = remove acl.lines i }
+
 -- the list without its first line that is equal to this one
 unfoldable pub without_equal : AccessLines → AclLine → AccessLines
 without_equal acl item = record acl { lines = without acl.lines (place_of_equal item acl.lines) }

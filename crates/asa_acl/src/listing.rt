@@ -7,7 +7,6 @@ use crate::holding::{HeldLine, place_of_equal, share_lines};
 use crate::using::NameLines;
 use asa_ace::AclLine;
 use asa_base::Name;
-use asa_text::Items;
 use std::alloc::{AllocError, Global};
 use std::marker::Model;
 
@@ -157,17 +156,25 @@ impl Acl {
         Some(place as u32)
     }
 
+    /// Removes the line at a place, counted from 0; takes no memory.
+    pub fn remove_at(&mut self, place: u32)
+        requires { place < length self.old.lines }
+        ensures { self.new ≡ spec.without_at self.old place }
+    {
+        let held = self.lines.remove(place as usize);
+        self.uses.take_line(&held);
+    }
+
     /// Removes the first line that is equal to this one, and answers whether there was one; takes no memory.
     #[tactic(auto, unfolding(crate::specs::Lists::without_equal))]
     pub fn remove_equal(&mut self, item: &AclLine) -> bool
         ensures found { result ≡ is_some (spec.place_of_equal item.now self.old.lines) }
         ensures left { self.new ≡ spec.without_equal self.old item.now }
     {
-        let Some(place) = place_of_equal(self.lines.as_slice(), item) else {
+        let Some(place) = self.place_of_equal(item) else {
             return false;
         };
-        let held = self.lines.remove(place);
-        self.uses.take_line(&held);
+        self.remove_at(place);
         true
     }
 
@@ -180,11 +187,10 @@ impl Acl {
     }
 
     /// The lines that use the object or group of this name, each once, in no certain order; reads no other line.
-    pub fn lines_using(&self, name: &Name) -> Result<Items<HeldLine>, AllocError>
-        ensures { IfOk result (λ ls. spec.AreUsing ls name.now self.now.lines) }
+    pub fn lines_using(&self, name: &Name) -> &[HeldLine]
+        ensures { spec.AreUsing result.now name.now self.now.lines }
     {
-        let lines = share_lines(self.alloc, self.uses.lines_of(name))?;
-        Ok(Items::from(lines))
+        self.uses.lines_of(name)
     }
 
     /// A copy, which shares the lines.

@@ -7,7 +7,7 @@ use Rattle.std.specs.Map.{lookup, set_value, remove_entry}
 use Rattle.std.specs.Str.{bytes_eq}
 use Rattle.indexmap.specs.IndexMap.{insert_entry}
 use Rattle.asa_ace.specs.declared.stating.AclLine.{AclLine}
-use Rattle.asa_acl.specs.Lists.{with_line, without_equal}
+use Rattle.asa_acl.specs.Lists.{with_line}
 use Rattle.asa_config.specs.Counted.{Counted, is_list, counted_among, pairs_in, with_counted, without_counted, line_put, line_taken, without_line, table_without, Keyed, values, IsTable}
 
 abbrev Entries : Type 0
@@ -216,9 +216,8 @@ pub put_named : (place : Option ℕ) (item : AclLine) (more : ℕ) (t : Counted)
 unfolding with_line
 put_named place item more t = refl
 
-pub taken_named : (item : AclLine) (less : ℕ) (t : Counted) → (line_taken t item less).list.name ≡ t.list.name
-unfolding without_equal
-taken_named item less t = refl
+pub taken_named : (place less : ℕ) (t : Counted) → (line_taken t place less).list.name ≡ t.list.name
+taken_named place less t = refl
 
 -- what holds of the list with a name, as the map tells it
 pub there_of : (P : Counted → Type 0) (es : Entries) (ts : List Counted) (name : List ℕ) → Keyed es → ts ≡ values es → IsSomeAnd (counted_among ts name) P
@@ -251,20 +250,20 @@ table_put es fs ts name place item P more {pairs} table same there few wrote = b
         (omega arith) (omega (arith, table.total, ap pairs_in same))
 
 -- and after one has been removed
-pub table_taken : (es fs : Entries) (ts : List Counted) (name : List ℕ) (item : AclLine) (less : ℕ) {pairs : ℕ} → IsTable es pairs → ts ≡ values es
+pub table_taken : (es fs : Entries) (ts : List Counted) (name : List ℕ) (place less : ℕ) {pairs : ℕ} → IsTable es pairs → ts ≡ values es
     → IsSomeAnd (counted_among ts name) (λ t. less ≤ t.pairs)
-    → IfSome (lookup (bytes_eq name) es) (λ t. fs ≡ set_value (bytes_eq name) es (line_taken t item less))
-    → IsTable fs (pairs - less) × (values fs ≡ table_without ts name item less)
+    → IfSome (lookup (bytes_eq name) es) (λ t. fs ≡ set_value (bytes_eq name) es (line_taken t place less))
+    → IsTable fs (pairs - less) × (values fs ≡ table_without ts name place less)
 unfolding table_without
-table_taken es fs ts name item less {pairs} table same there wrote = by (counted_among ts name) refl there
+table_taken es fs ts name place less {pairs} table same there wrote = by (counted_among ts name) refl there
   where
-    by : (o : Option Counted) → counted_among ts name ≡ o → IsSomeAnd o (λ t. less ≤ t.pairs) → IsTable fs (pairs - less) × (values fs ≡ table_without ts name item less)
+    by : (o : Option Counted) → counted_among ts name ≡ o → IsSomeAnd o (λ t. less ≤ t.pairs) → IsTable fs (pairs - less) × (values fs ≡ table_without ts name place less)
     by None found there = absurd there
     by (Some t) found there =
         let most : t.pairs ≤ pairs_in ts = pairs_at_most ts name t found in
-        let both = changed (λ u. line_taken u item less) (taken_named item less) es fs ts name t table same found wrote
+        let both = changed (λ u. line_taken u place less) (taken_named place less) es fs ts name t table same found wrote
         (omega (arith, most, table.total, ap pairs_in same, there)) (omega (arith, table.few_pairs)) in
-        (both.0, both.1 ∙ ap (without_line ts item less) (sym found))
+        (both.0, both.1 ∙ ap (without_line ts place less) (sym found))
 
 pub taken_at_most : (es : Entries) (ts : List Counted) (name : List ℕ) {pairs less : ℕ} → IsTable es pairs → ts ≡ values es
     → IsSomeAnd (counted_among ts name) (λ t. less ≤ t.pairs) → less ≤ pairs

@@ -4,9 +4,11 @@ use Rattle.std.specs.List.{sum_by, remove, list_all}
 use Rattle.std.specs.Str.{bytes_eq}
 use Rattle.std.proofs.Math.Seq.{drop-cons}
 use Rattle.std.proofs.lemmas.List.{take-append-drop}
+use Rattle.std.proofs.lemmas.List.Quantifiers.{position-Some}
 use Rattle.std.proofs.lemmas.List.Sums.{sum_by-cons, sum_by-append}
 use Rattle.asa_ace.specs.declared.stating.AclLine.{AclLine}
-use Rattle.asa_acl.specs.Lists.{AccessLines, without_equal, without, place_of_equal}
+use Rattle.asa_ace.specs.Lines.{line_eq}
+use Rattle.asa_acl.specs.Lists.{AccessLines, without_at, without_equal, without}
 use Rattle.asa_boxes.specs.Meanings.{Meanings}
 use Rattle.asa_boxes.specs.Pairs.{line_pairs, list_pairs}
 use Rattle.asa_ifaces.specs.Interfaces.{Interfaces}
@@ -14,11 +16,11 @@ use Rattle.asa_objects.specs.Tables.{Table}
 use Rattle.std.proofs.lemmas.Bool.{and_parts, and_from}
 use Rattle.std.proofs.lemmas.Slice.Eq.{bytes_eq-Decides}
 use Rattle.asa_config.specs.Settings.{has_name, list_among}
-use Rattle.asa_config.specs.Counted.{Counted, is_list, counted_among, lists_in, pairs_in, with_counted, without_counted, line_taken, table_without}
+use Rattle.asa_config.specs.Counted.{Counted, is_list, counted_among, lists_in, without_counted, line_taken, table_without}
 use Rattle.asa_config.specs.Counted as counted
 use Rattle.asa_config.specs.Groups.{binds, is_name_there}
 use Rattle.asa_config.specs.Knowing.{meanings_in, pairs_of_lists}
-use Rattle.asa_config.specs.Lists.{without_list, without_line}
+use Rattle.asa_config.specs.Lists.{with_list, without_list, without_line, place_in}
 use Rattle.asa_config.specs.Soundness.{AreCounted, IsKept, TakesPairs, is_global_defined}
 use Rattle.asa_config.proofs.ConfigLaws.{list_in, list_in_table}
 use Rattle.asa_config.proofs.LineLaws.{lists_with_counted, counted_with, found_counted}
@@ -36,12 +38,9 @@ sum_remove f xs i d lt =
       sum_by-cons f (get_or xs i d) (drop (suc i) xs),
     )
 
-pub pairs_taken : (m : Meanings) (l : AccessLines) (item : AclLine) (i : ℕ) (d : AclLine) (n : ℕ) → place_of_equal item l.lines ≡ Some i → i < length l.lines
-    → n ≡ line_pairs m (get_or l.lines i d) → list_pairs m (without_equal l item).lines + n ≡ list_pairs m l.lines
-unfolding without_equal
-pairs_taken m l item i d n found lt told =
-    ap (λ p. list_pairs m (without l.lines p) + n) found
-    ∙ omega (arith, told, sum_remove (λ x. line_pairs m x) l.lines i d lt)
+pub pairs_taken : (m : Meanings) (l : AccessLines) (i : ℕ) (d : AclLine) (n : ℕ) → i < length l.lines → n ≡ line_pairs m (get_or l.lines i d)
+    → list_pairs m (without_at l i).lines + n ≡ list_pairs m l.lines
+pairs_taken m l i d n lt told = omega (arith, told, sum_remove (λ x. line_pairs m x) l.lines i d lt)
 
 -- a list has no more pairs than all
 most_of : (m : Meanings) (lists : List AccessLines) (name : List ℕ) (l : AccessLines) → list_among lists name ≡ Some l → list_pairs m l.lines ≤ pairs_of_lists m lists
@@ -54,57 +53,85 @@ most_of m (k ∷ ks) name l found = by (has_name name k) found (λ there. most_o
     by false there more = omega (arith, more there, sum_by-cons (λ x. list_pairs m x.lines) k ks)
 
 -- the pairs of a line of a list are few
-pub few_taken : (m : Meanings) (lists : List AccessLines) (name : List ℕ) (l : AccessLines) (item : AclLine) (n : ℕ) → Some l ≡ list_among lists name → pairs_of_lists m lists ≤ 262144
-    → list_pairs m (without_equal l item).lines + n ≡ list_pairs m l.lines → n ≤ 262144
-few_taken m lists name l item n found few sum = omega (arith, most_of m lists name l (sym found), few, sum)
+pub few_taken : (m : Meanings) (lists : List AccessLines) (name : List ℕ) (l : AccessLines) (i n : ℕ) → Some l ≡ list_among lists name → pairs_of_lists m lists ≤ 262144
+    → list_pairs m (without_at l i).lines + n ≡ list_pairs m l.lines → n ≤ 262144
+few_taken m lists name l i n found few sum = omega (arith, most_of m lists name l (sym found), few, sum)
 
--- the same as the table has it
-takes_counted : (m : Meanings) (ts : List Counted) (name : List ℕ) (item : AclLine) (n : ℕ) (o : Option Counted) → counted_among ts name ≡ o
-    → TakesPairs m item n (list_among (lists_in ts) name) → TakesPairs m item n (list_in o)
-takes_counted m ts name item n o found takes =
-    subst (TakesPairs m item n) (sym (list_in_table ts name o (sym found))) takes
+-- a list has a line at the place where one is found
+pub place_within : (item : AclLine) (o : Option AccessLines) (i : ℕ) → place_in item o ≡ Some i → IsSomeAnd o (λ l. i < length l.lines)
+place_within item None i found = absurd (cc)
+place_within item (Some l) i found = (position-Some (line_eq item) l.lines i item found).0
 
-pub takes_at_most : (m : Meanings) (ts : List Counted) (name : List ℕ) (item : AclLine) (n : ℕ) → AreCounted m ts → TakesPairs m item n (list_among (lists_in ts) name)
+-- what is told of a list, as the table has it
+takes_counted : (m : Meanings) (ts : List Counted) (name : List ℕ) (i n : ℕ) (o : Option Counted) → counted_among ts name ≡ o
+    → TakesPairs m i n (list_among (lists_in ts) name) → TakesPairs m i n (list_in o)
+takes_counted m ts name i n o found takes =
+    subst (TakesPairs m i n) (sym (list_in_table ts name o (sym found))) takes
+
+pub takes_within : (m : Meanings) (ts : List Counted) (name : List ℕ) (i n : ℕ) → TakesPairs m i n (list_among (lists_in ts) name)
+    → IsSomeAnd (counted_among ts name) (λ t. i < length t.list.lines)
+takes_within m ts name i n takes = by (counted_among ts name) (takes_counted m ts name i n (counted_among ts name) refl takes)
+  where
+    by : (o : Option Counted) → TakesPairs m i n (list_in o) → IsSomeAnd o (λ t. i < length t.list.lines)
+    by None takes = absurd takes
+    by (Some t) takes = takes.0
+
+pub takes_at_most : (m : Meanings) (ts : List Counted) (name : List ℕ) (i n : ℕ) → AreCounted m ts → TakesPairs m i n (list_among (lists_in ts) name)
     → IsSomeAnd (counted_among ts name) (λ t. n ≤ t.pairs)
-takes_at_most m ts name item n counted takes = by (counted_among ts name) refl (takes_counted m ts name item n (counted_among ts name) refl takes)
+takes_at_most m ts name i n counted takes = by (counted_among ts name) refl (takes_counted m ts name i n (counted_among ts name) refl takes)
   where
-    by : (o : Option Counted) → counted_among ts name ≡ o → TakesPairs m item n (list_in o) → IsSomeAnd o (λ t. n ≤ t.pairs)
+    by : (o : Option Counted) → counted_among ts name ≡ o → TakesPairs m i n (list_in o) → IsSomeAnd o (λ t. n ≤ t.pairs)
     by None found takes = absurd takes
-    by (Some t) found takes = omega (arith, takes.0, found_counted m ts name t counted found)
+    by (Some t) found takes = omega (arith, takes.1, found_counted m ts name t counted found)
 
-lists_without_line : (ts : List Counted) (item : AclLine) (n : ℕ) (o : Option Counted) → lists_in (counted.without_line ts item n o) ≡ without_line (lists_in ts) item (list_in o)
-lists_without_line ts item n None = refl
-lists_without_line ts item n (Some t) = lists_with_counted ts (line_taken t item n)
+-- the lists without the line at a place of one of them
+abbrev without_place : List AccessLines → ℕ → Option AccessLines → List AccessLines
+without_place lists i None = lists
+without_place lists i (Some l) = with_list lists (without_at l i)
 
-pub lists_taken : (ts us : List Counted) (name : List ℕ) (item : AclLine) (n : ℕ) → us ≡ table_without ts name item n
+lists_without_line : (ts : List Counted) (i n : ℕ) (o : Option Counted) → lists_in (counted.without_line ts i n o) ≡ without_place (lists_in ts) i (list_in o)
+lists_without_line ts i n None = refl
+lists_without_line ts i n (Some t) = lists_with_counted ts (line_taken t i n)
+
+lists_taken_at : (ts us : List Counted) (name : List ℕ) (i n : ℕ) → us ≡ table_without ts name i n
+    → lists_in us ≡ without_place (lists_in ts) i (list_among (lists_in ts) name)
+unfolding table_without
+lists_taken_at ts us name i n made =
+    ap lists_in made ∙ lists_without_line ts i n (counted_among ts name)
+    ∙ ap (without_place (lists_in ts) i) (list_in_table ts name (counted_among ts name) refl)
+
+-- the line that goes is the first that equals the one that is told
+place_equal : (lists : List AccessLines) (item : AclLine) (i : ℕ) (o : Option AccessLines) → place_in item o ≡ Some i → without_place lists i o ≡ without_line lists item o
+unfolding without_equal
+place_equal lists item i None found = refl
+place_equal lists item i (Some l) found = ap (λ p. with_list lists (record l { lines = without l.lines p })) (sym found)
+
+pub lists_taken : (ts us : List Counted) (name : List ℕ) (item : AclLine) (i n : ℕ) → place_in item (list_among (lists_in ts) name) ≡ Some i → us ≡ table_without ts name i n
     → lists_in us ≡ without_line (lists_in ts) item (list_among (lists_in ts) name)
-unfolding table_without
-lists_taken ts us name item n made =
-    ap lists_in made ∙ lists_without_line ts item n (counted_among ts name)
-    ∙ ap (without_line (lists_in ts) item) (list_in_table ts name (counted_among ts name) refl)
+lists_taken ts us name item i n found made = lists_taken_at ts us name i n made ∙ place_equal (lists_in ts) item i (list_among (lists_in ts) name) found
 
-there_taken : (lists : List AccessLines) (item : AclLine) (o : Option AccessLines) (name : List ℕ) → is_some (list_among lists name) ≡ true → is_some (list_among (without_line lists item o) name) ≡ true
-there_taken lists item None name there = there
-there_taken lists item (Some l) name there = there_with lists (without_equal l item) name ∙ there
+there_taken : (lists : List AccessLines) (i : ℕ) (o : Option AccessLines) (name : List ℕ) → is_some (list_among lists name) ≡ true → is_some (list_among (without_place lists i o) name) ≡ true
+there_taken lists i None name there = there
+there_taken lists i (Some l) name there = there_with lists (without_at l i) name ∙ there
 
-pub kept_taken : (objects : Table) (net : Interfaces) (ts us : List Counted) (bound : List ((ℕ × Bool) × List ℕ)) (global : Option (List ℕ)) (name : List ℕ) (item : AclLine) (n : ℕ) → IsKept objects net ts bound global
-    → TakesPairs (meanings_in objects net.ifaces) item n (list_among (lists_in ts) name) → us ≡ table_without ts name item n → IsKept objects net us bound global
+pub kept_taken : (objects : Table) (net : Interfaces) (ts us : List Counted) (bound : List ((ℕ × Bool) × List ℕ)) (global : Option (List ℕ)) (name : List ℕ) (i n : ℕ) → IsKept objects net ts bound global
+    → TakesPairs (meanings_in objects net.ifaces) i n (list_among (lists_in ts) name) → us ≡ table_without ts name i n → IsKept objects net us bound global
 unfolding table_without
-kept_taken objects net ts us bound global name item n kept takes made =
+kept_taken objects net ts us bound global name i n kept takes made =
     kept_lists objects net ts us bound global kept
-    (subst (AreCounted (meanings_in objects net.ifaces)) (sym made) (by (counted_among ts name) refl (takes_counted (meanings_in objects net.ifaces) ts name item n (counted_among ts name) refl takes)))
-    (λ other there. ap (λ ls. is_some (list_among ls other)) (lists_taken ts us name item n made) ∙ there_taken (lists_in ts) item (list_among (lists_in ts) name) other there)
+    (subst (AreCounted (meanings_in objects net.ifaces)) (sym made) (by (counted_among ts name) refl (takes_counted (meanings_in objects net.ifaces) ts name i n (counted_among ts name) refl takes)))
+    (λ other there. ap (λ ls. is_some (list_among ls other)) (lists_taken_at ts us name i n made) ∙ there_taken (lists_in ts) i (list_among (lists_in ts) name) other there)
   where
-    by : (o : Option Counted) → counted_among ts name ≡ o → TakesPairs (meanings_in objects net.ifaces) item n (list_in o) → AreCounted (meanings_in objects net.ifaces) (counted.without_line ts item n o)
+    by : (o : Option Counted) → counted_among ts name ≡ o → TakesPairs (meanings_in objects net.ifaces) i n (list_in o) → AreCounted (meanings_in objects net.ifaces) (counted.without_line ts i n o)
     by None found takes = absurd takes
     by (Some t) found takes =
-        counted_with (meanings_in objects net.ifaces) ts (line_taken t item n) kept.counted
-        (omega (arith, takes.0, found_counted (meanings_in objects net.ifaces) ts name t kept.counted found))
+        counted_with (meanings_in objects net.ifaces) ts (line_taken t i n) kept.counted
+        (omega (arith, takes.1, found_counted (meanings_in objects net.ifaces) ts name t kept.counted found))
 
-pub kept_taken_answer : {E : Type 0} (r : Result (Unit {0}) E) (objects : Table) (net : Interfaces) (ts us : List Counted) (bound : List ((ℕ × Bool) × List ℕ)) (global : Option (List ℕ)) (name : List ℕ) (item : AclLine) (n : ℕ)
-    → IsKept objects net ts bound global → TakesPairs (meanings_in objects net.ifaces) item n (list_among (lists_in ts) name) → OnOk r (us ≡ table_without ts name item n) → OnErr r (us ≡ ts) → IsKept objects net us bound global
-kept_taken_answer (Ok x) objects net ts us bound global name item n kept takes ok err = kept_taken objects net ts us bound global name item n kept takes ok
-kept_taken_answer (Err e) objects net ts us bound global name item n kept takes ok err = subst (λ t. IsKept objects net t bound global) (sym err) kept
+pub kept_taken_answer : {E : Type 0} (r : Result (Unit {0}) E) (objects : Table) (net : Interfaces) (ts us : List Counted) (bound : List ((ℕ × Bool) × List ℕ)) (global : Option (List ℕ)) (name : List ℕ) (i n : ℕ)
+    → IsKept objects net ts bound global → TakesPairs (meanings_in objects net.ifaces) i n (list_among (lists_in ts) name) → OnOk r (us ≡ table_without ts name i n) → OnErr r (us ≡ ts) → IsKept objects net us bound global
+kept_taken_answer (Ok x) objects net ts us bound global name i n kept takes ok err = kept_taken objects net ts us bound global name i n kept takes ok
+kept_taken_answer (Err e) objects net ts us bound global name i n kept takes ok err = subst (λ t. IsKept objects net t bound global) (sym err) kept
 
 -- a list goes
 pub lists_without_counted : (ts : List Counted) (name : List ℕ) → lists_in (without_counted ts name) ≡ without_list (lists_in ts) name

@@ -1,10 +1,11 @@
 -- The pairs of a list are those of the lines that use one of some names and those of the others, which stay as they are
 -- where every other name stands for the same.
-use Rattle.std.proofs.Common.{◌≡◌, ℕ, ◌+◌, ◌-◌, ◌≤◌, ◌<◌, suc, length, take, get_or, Bool, true, false, not, ◌||◌, if◌then◌else◌, List, [], ◌∷◌, ◌++◌, map, filter, Option, Some, None, Decides, refl, sym, ap, subst, ◌∙◌, arith}
+use Rattle.std.proofs.Common.{◌≡◌, ℕ, ◌+◌, ◌-◌, ◌≤◌, ◌<◌, suc, length, take, get_or, Bool, true, false, not, cond, ◌||◌, List, [], ◌∷◌, ◌++◌, map, filter, Option, Some, None, Decides, refl, sym, ap, subst, ◌∙◌, arith}
 use Rattle.std.specs.List.{list_any, sum_by}
 use Rattle.std.specs.Str.{bytes_eq}
 use Rattle.std.proofs.lemmas.Slice.Eq.{bytes_eq-Decides}
 use Rattle.std.proofs.lemmas.Bool.{false≢true, or_left, or_right}
+use Rattle.std.proofs.Math.Bool.{or-false}
 use Rattle.std.proofs.Math.Seq.{take-suc}
 use Rattle.std.proofs.lemmas.List.Sums.{sum_by-cons}
 use Rattle.std.proofs.lemmas.List.Folds.{list_any-append}
@@ -12,15 +13,17 @@ use Rattle.asa_ifaces.specs.declared.holding.Iface.{Iface}
 use Rattle.asa_ace.specs.declared.stating.Ace.{Ace}
 use Rattle.asa_ace.specs.declared.stating.AclLine.{AclLine}
 use Rattle.asa_ace.specs.declared.stating.AclLine.TheVariants as line
-use Rattle.asa_ace.specs.Lines.{address_name, service_name, source_ports_name, dest_ports_name, is_named, ace_uses, line_uses}
+use Rattle.asa_ace.specs.Lines.{is_named, ace_uses, line_uses}
 use Rattle.asa_acl.specs.Lists.{AccessLines, list_uses}
+use Rattle.asa_acl.specs.Uses.{places}
+use Rattle.asa_acl.proofs.UseLaws.{uses_places}
 use Rattle.asa_boxes.specs.Meanings.{Meanings}
 use Rattle.asa_boxes.specs.Pairs.{line_pairs, list_pairs}
 use Rattle.asa_objects.specs.Ranks.{has_name}
 use Rattle.asa_objects.specs.Tables.{Table, same_name}
 use Rattle.asa_objects.proofs.LabelLaws.{same-is, same-self}
 use Rattle.asa_config.specs.Knowing.{meanings_in}
-use Rattle.asa_config.specs.Using.{is_among, entry_uses, uses_one, if_holds, line_rest, used_pairs, rest_pairs, further_pairs, KeepsBut}
+use Rattle.asa_config.specs.Using.{is_among, entry_uses, uses_one, line_rest, used_pairs, rest_pairs, further_pairs, KeepsBut}
 use Rattle.asa_config.proofs.SameLaws.{line_same}
 
 -- both tests of names say the same
@@ -33,10 +36,6 @@ same_bytes a b = by (same_name a b) (bytes_eq b a) (same-is a b) (λ e. subst (�
     by true false f g d = absurd (false≢true (d.1 (sym (f refl))))
     by false true f g d = absurd (false≢true (g (sym (d.0 refl))))
 
-or_false : (b : Bool) → (b || false) ≡ b
-or_false true = refl
-or_false false = refl
-
 swap : (a b c d : Bool) → ((a || b) || (c || d)) ≡ ((a || c) || (b || d))
 swap true b c d = refl
 swap false true true d = refl
@@ -46,50 +45,38 @@ swap false false c d = refl
 both_more : (a b c d x y : Bool) → x ≡ (a || b) → y ≡ (c || d) → (x || y) ≡ ((a || c) || (b || d))
 both_more a b c d x y e f = ap (λ t. t || y) e ∙ ap (λ t. (a || b) || t) f ∙ swap a b c d
 
--- five tests, each of which is one or the other
-five_more : {X : Type 0} (p q r : X → Bool) → ((x : X) → r x ≡ (p x || q x)) → (a b c d e : X)
-    → ((((r a || r b) || r c) || r d) || r e) ≡ (((((p a || p b) || p c) || p d) || p e) || ((((q a || q b) || q c) || q d) || q e))
-five_more p q r h a b c d e =
-    both_more (((p a || p b) || p c) || p d) (((q a || q b) || q c) || q d) (p e) (q e) (((r a || r b) || r c) || r d) (r e)
-    (both_more ((p a || p b) || p c) ((q a || q b) || q c) (p d) (q d) ((r a || r b) || r c) (r d)
-    (both_more (p a || p b) (q a || q b) (p c) (q c) (r a || r b) (r c)
-    (both_more (p a) (q a) (p b) (q b) (r a) (r b) (h a) (h b)) (h c)) (h d)) (h e)
-
 or_alike : (a b c d : Bool) → a ≡ c → b ≡ d → (a || b) ≡ (c || d)
 or_alike a b c d e f = ap (λ t. t || b) e ∙ ap (λ t. c || t) f
-
--- five tests that are the same
-five_alike : {X : Type 0} (p r : X → Bool) → (a b c d e : X) → p a ≡ r a → p b ≡ r b → p c ≡ r c → p d ≡ r d → p e ≡ r e
-    → ((((p a || p b) || p c) || p d) || p e) ≡ ((((r a || r b) || r c) || r d) || r e)
-five_alike p r a b c d e ha hb hc hd he =
-    or_alike (((p a || p b) || p c) || p d) (p e) (((r a || r b) || r c) || r d) (r e)
-    (or_alike ((p a || p b) || p c) (p d) ((r a || r b) || r c) (r d)
-    (or_alike (p a || p b) (p c) (r a || r b) (r c)
-    (or_alike (p a) (p b) (r a) (r b) ha hb) hc) hd) he
 
 or_both : (a b c d : Bool) → (a ≡ true → c ≡ true) → (b ≡ true → d ≡ true) → (a || b) ≡ true → (c || d) ≡ true
 or_both true b c d f g h = or_left c d (f refl)
 or_both false b c d f g h = or_right c d (g h)
 
--- five tests, each of which follows from another
-five_from : {X : Type 0} (p q : X → Bool) → ((x : X) → p x ≡ true → q x ≡ true) → (a b c d e : X)
-    → ((((p a || p b) || p c) || p d) || p e) ≡ true → ((((q a || q b) || q c) || q d) || q e) ≡ true
-five_from p q h a b c d e =
-    or_both (((p a || p b) || p c) || p d) (p e) (((q a || q b) || q c) || q d) (q e)
-    (or_both ((p a || p b) || p c) (p d) ((q a || q b) || q c) (q d)
-    (or_both (p a || p b) (p c) (q a || q b) (q c)
-    (or_both (p a) (p b) (q a) (q b) (h a) (h b)) (h c)) (h d)) (h e)
+-- some element passes a test that is one or the other
+any_more : {X : Type 0} (p q r : X → Bool) → ((x : X) → r x ≡ (p x || q x)) → (xs : List X) → list_any r xs ≡ (list_any p xs || list_any q xs)
+any_more p q r h [] = refl
+any_more p q r h (x ∷ xs) = both_more (p x) (q x) (list_any p xs) (list_any q xs) (r x) (list_any r xs) (h x) (any_more p q r h xs)
+
+-- the same test, told in another way
+any_same : {X : Type 0} (p r : X → Bool) → ((x : X) → p x ≡ r x) → (xs : List X) → list_any p xs ≡ list_any r xs
+any_same p r same [] = refl
+any_same p r same (x ∷ xs) = or_alike (p x) (list_any p xs) (r x) (list_any r xs) (same x) (any_same p r same xs)
+
+-- a test that follows from another
+any_from : {X : Type 0} (p q : X → Bool) → ((x : X) → p x ≡ true → q x ≡ true) → (xs : List X) → list_any p xs ≡ true → list_any q xs ≡ true
+any_from p q h [] none = none
+any_from p q h (x ∷ xs) some = or_both (p x) (list_any p xs) (q x) (list_any q xs) (h x) (any_from p q h xs) some
 
 -- one more name
 among_more : (names : List (List ℕ)) (n : List ℕ) (o : Option (List ℕ)) → is_among (names ++ n ∷ []) o ≡ (is_among names o || is_named n o)
 among_more names n None = refl
-among_more names n (Some q) = list_any-append (same_name q) names (n ∷ []) ∙ ap (λ b. has_name names q || b) (or_false (same_name q n) ∙ same_bytes q n)
+among_more names n (Some q) = list_any-append (same_name q) names (n ∷ []) ∙ ap (λ b. has_name names q || b) (or-false (same_name q n) ∙ same_bytes q n)
 
 entry_more : (names : List (List ℕ)) (n : List ℕ) (a : Ace) → entry_uses (names ++ n ∷ []) a ≡ (entry_uses names a || ace_uses n a)
-unfolding entry_uses ace_uses
+unfolding entry_uses
 entry_more names n a =
-    five_more (is_among names) (is_named n) (is_among (names ++ n ∷ [])) (among_more names n)
-    (service_name a.service) (source_ports_name a.service) (dest_ports_name a.service) (address_name a.source) (address_name a.dest)
+    any_more (is_among names) (is_named n) (is_among (names ++ n ∷ [])) (among_more names n) (places a)
+    ∙ ap (λ b. list_any (is_among names) (places a) || b) (sym (uses_places n a))
 
 line_more : (names : List (List ℕ)) (n : List ℕ) (l : AclLine) → uses_one (names ++ n ∷ []) l ≡ (uses_one names l || line_uses n l)
 unfolding uses_one line_uses
@@ -114,12 +101,12 @@ sum_both f g h same (x ∷ xs) =
     let gs = sum_by-cons g x xs in
     omega arith
 
-pub sum_filter : {X : Type 0} (p : X → Bool) (f : X → ℕ) (xs : List X) → sum_by f (filter p xs) ≡ sum_by (λ x. if_holds (p x) (f x)) xs
+pub sum_filter : {X : Type 0} (p : X → Bool) (f : X → ℕ) (xs : List X) → sum_by f (filter p xs) ≡ sum_by (λ x. cond (p x) (f x) 0) xs
 sum_filter p f [] = refl
-sum_filter p f (x ∷ xs) = by (p x) (sum_filter p f xs) ∙ sym (sum_by-cons (λ x. if_holds (p x) (f x)) x xs)
+sum_filter p f (x ∷ xs) = by (p x) (sum_filter p f xs) ∙ sym (sum_by-cons (λ x. cond (p x) (f x) 0) x xs)
   where
-    by : (b : Bool) → sum_by f (filter p xs) ≡ sum_by (λ x. if_holds (p x) (f x)) xs
-        → sum_by f (if b then x ∷ filter p xs else filter p xs) ≡ if_holds b (f x) + sum_by (λ x. if_holds (p x) (f x)) xs
+    by : (b : Bool) → sum_by f (filter p xs) ≡ sum_by (λ x. cond (p x) (f x) 0) xs
+        → sum_by f (cond b (x ∷ filter p xs) (filter p xs)) ≡ cond b (f x) 0 + sum_by (λ x. cond (p x) (f x) 0) xs
     by true rest = sum_by-cons f x (filter p xs) ∙ ap (λ n. f x + n) rest
     by false rest = rest ∙ and_zero _
 
@@ -127,11 +114,11 @@ sum_filter p f (x ∷ xs) = by (p x) (sum_filter p f xs) ∙ sym (sum_by-cons (�
 pub used_more : (m : Meanings) (names : List (List ℕ)) (n : List ℕ) (ls : List AclLine) → used_pairs m (names ++ n ∷ []) ls ≡ used_pairs m names ls + further_pairs m n names ls
 used_more m names n = sum_both _ _ _ (λ l. by (uses_one names l) (line_uses n l) (uses_one (names ++ n ∷ []) l) (line_more names n l) (line_pairs m l))
   where
-    by : (u v w : Bool) → w ≡ (u || v) → (k : ℕ) → if_holds w k ≡ if_holds u k + if_holds v (if_holds (not u) k)
-    by true true w e k = ap (λ b. if_holds b k) e ∙ omega arith
-    by true false w e k = ap (λ b. if_holds b k) e ∙ omega arith
-    by false true w e k = ap (λ b. if_holds b k) e ∙ omega arith
-    by false false w e k = ap (λ b. if_holds b k) e ∙ omega arith
+    by : (u v w : Bool) → w ≡ (u || v) → (k : ℕ) → cond w k 0 ≡ cond u k 0 + cond v (cond (not u) k 0) 0
+    by true true w e k = ap (λ b. cond b k 0) e ∙ omega arith
+    by true false w e k = ap (λ b. cond b k 0) e ∙ omega arith
+    by false true w e k = ap (λ b. cond b k 0) e ∙ omega arith
+    by false false w e k = ap (λ b. cond b k 0) e ∙ omega arith
 
 none_among : (o : Option (List ℕ)) → is_among [] o ≡ false
 none_among None = refl
@@ -139,16 +126,13 @@ none_among (Some q) = refl
 
 none_uses : (l : AclLine) → uses_one [] l ≡ false
 unfolding uses_one entry_uses
-none_uses (line.Ace a) =
-    five_alike (is_among []) (λ _. false) (service_name a.service) (source_ports_name a.service) (dest_ports_name a.service) (address_name a.source) (address_name a.dest)
-    (none_among (service_name a.service)) (none_among (source_ports_name a.service)) (none_among (dest_ports_name a.service))
-    (none_among (address_name a.source)) (none_among (address_name a.dest))
+none_uses (line.Ace a) = any_same (is_among []) (λ _. false) none_among (places a)
 none_uses (line.Remark text) = refl
 
 pub used_none : (m : Meanings) (ls : List AclLine) → used_pairs m [] ls ≡ 0
 used_none m [] = refl
 used_none m (l ∷ ls) =
-    sum_by-cons (λ x. if_holds (uses_one [] x) (line_pairs m x)) l ls ∙ ap (λ b. if_holds b (line_pairs m l) + used_pairs m [] ls) (none_uses l)
+    sum_by-cons (λ x. cond (uses_one [] x) (line_pairs m x) 0) l ls ∙ ap (λ b. cond b (line_pairs m l) 0 + used_pairs m [] ls) (none_uses l)
     ∙ sym (and_zero (used_pairs m [] ls)) ∙ used_none m ls
 
 -- the same names, told in another way
@@ -161,14 +145,11 @@ among_alike a b same (Some q) = same q
 
 uses_alike : (a b : List (List ℕ)) → Alike a b → (l : AclLine) → uses_one a l ≡ uses_one b l
 unfolding uses_one entry_uses
-uses_alike a b same (line.Ace e) =
-    five_alike (is_among a) (is_among b) (service_name e.service) (source_ports_name e.service) (dest_ports_name e.service) (address_name e.source) (address_name e.dest)
-    (among_alike a b same (service_name e.service)) (among_alike a b same (source_ports_name e.service)) (among_alike a b same (dest_ports_name e.service))
-    (among_alike a b same (address_name e.source)) (among_alike a b same (address_name e.dest))
+uses_alike a b same (line.Ace e) = any_same (is_among a) (is_among b) (among_alike a b same) (places e)
 uses_alike a b same (line.Remark text) = refl
 
 pub further_alike : (m : Meanings) (n : List ℕ) (a b : List (List ℕ)) → Alike a b → (ls : List AclLine) → further_pairs m n a ls ≡ further_pairs m n b ls
-further_alike m n a b same = sum_alike _ _ (λ l. ap (λ u. if_holds (line_uses n l) (if_holds (not u) (line_pairs m l))) (uses_alike a b same l))
+further_alike m n a b same = sum_alike _ _ (λ l. ap (λ u. cond (line_uses n l) (cond (not u) (line_pairs m l) 0) 0) (uses_alike a b same l))
 
 -- names that no line of a list uses need not be asked for
 has_kept : (P : List ℕ → Bool) (names : List (List ℕ)) (q : List ℕ) → P q ≡ true → has_name (filter P names) q ≡ has_name names q
@@ -176,7 +157,7 @@ has_kept P [] q held = refl
 has_kept P (n ∷ ns) q held = by (P n) refl (has_kept P ns q held)
   where
     by : (b : Bool) → P n ≡ b → has_name (filter P ns) q ≡ has_name ns q
-        → list_any (same_name q) (if b then n ∷ filter P ns else filter P ns) ≡ (same_name q n || has_name ns q)
+        → list_any (same_name q) (cond b (n ∷ filter P ns) (filter P ns)) ≡ (same_name q n || has_name ns q)
     by true e rest = ap (λ t. same_name q n || t) rest
     by false e rest = rest ∙ ap (λ t. t || has_name ns q) (sym (apart (same_name q n) refl))
       where
@@ -188,16 +169,16 @@ among_kept : (P : List ℕ → Bool) (names : List (List ℕ)) (o : Option (List
 among_kept P names None all = refl
 among_kept P names (Some q) all = has_kept P names q (all q ((bytes_eq-Decides q q).1 refl))
 
+places_kept : (P : List ℕ → Bool) (names : List (List ℕ)) (os : List (Option (List ℕ))) → ((q : List ℕ) → list_any (is_named q) os ≡ true → P q ≡ true)
+    → list_any (is_among (filter P names)) os ≡ list_any (is_among names) os
+places_kept P names [] all = refl
+places_kept P names (o ∷ os) all =
+    or_alike (is_among (filter P names) o) (list_any (is_among (filter P names)) os) (is_among names o) (list_any (is_among names) os)
+    (among_kept P names o (λ q h. all q (or_left _ _ h))) (places_kept P names os (λ q h. all q (or_right _ _ h)))
+
 entry_kept : (P : List ℕ → Bool) (names : List (List ℕ)) (a : Ace) → ((q : List ℕ) → ace_uses q a ≡ true → P q ≡ true) → entry_uses (filter P names) a ≡ entry_uses names a
-unfolding entry_uses ace_uses
-entry_kept P names a all =
-    five_alike (is_among (filter P names)) (is_among names)
-    (service_name a.service) (source_ports_name a.service) (dest_ports_name a.service) (address_name a.source) (address_name a.dest)
-    (among_kept P names (service_name a.service) (λ q h. all q (or_left _ _ (or_left _ _ (or_left _ _ (or_left _ _ h))))))
-    (among_kept P names (source_ports_name a.service) (λ q h. all q (or_left _ _ (or_left _ _ (or_left _ _ (or_right _ _ h))))))
-    (among_kept P names (dest_ports_name a.service) (λ q h. all q (or_left _ _ (or_left _ _ (or_right _ _ h)))))
-    (among_kept P names (address_name a.source) (λ q h. all q (or_left _ _ (or_right _ _ h))))
-    (among_kept P names (address_name a.dest) (λ q h. all q (or_right _ _ h)))
+unfolding entry_uses
+entry_kept P names a all = places_kept P names (places a) (λ q h. all q (uses_places q a ∙ h))
 
 line_kept : (P : List ℕ → Bool) (names : List (List ℕ)) (l : AclLine) → ((q : List ℕ) → line_uses q l ≡ true → P q ≡ true) → uses_one (filter P names) l ≡ uses_one names l
 unfolding uses_one line_uses
@@ -209,9 +190,9 @@ lines_kept : (m : Meanings) (P : List ℕ → Bool) (names : List (List ℕ)) (l
 lines_kept m P names [] all = refl
 lines_kept m P names (l ∷ ls) all =
     sum_by-cons _ l ls
-    ∙ ap (λ u. if_holds u (line_pairs m l) + used_pairs m (filter P names) ls) (line_kept P names l (λ q h. all q (or_left _ _ h)))
-    ∙ ap (λ n. if_holds (uses_one names l) (line_pairs m l) + n) (lines_kept m P names ls (λ q h. all q (or_right _ _ h)))
-    ∙ sym (sum_by-cons (λ x. if_holds (uses_one names x) (line_pairs m x)) l ls)
+    ∙ ap (λ u. cond u (line_pairs m l) 0 + used_pairs m (filter P names) ls) (line_kept P names l (λ q h. all q (or_left _ _ h)))
+    ∙ ap (λ n. cond (uses_one names l) (line_pairs m l) 0 + n) (lines_kept m P names ls (λ q h. all q (or_right _ _ h)))
+    ∙ sym (sum_by-cons (λ x. cond (uses_one names x) (line_pairs m x) 0) l ls)
 
 pub used_listed : (m : Meanings) (acl : AccessLines) (names : List (List ℕ)) → used_pairs m (filter (λ q. list_uses q acl) names) acl.lines ≡ used_pairs m names acl.lines
 unfolding list_uses
@@ -221,7 +202,7 @@ used_listed m acl names = lines_kept m (λ q. list_any (line_uses q) acl.lines) 
 pub rest_and_used : (m : Meanings) (names : List (List ℕ)) (ls : List AclLine) → rest_pairs m names ls + used_pairs m names ls ≡ list_pairs m ls
 rest_and_used m names ls = sym (sum_both (line_rest m names) _ _ (λ l. by (uses_one names l) (line_pairs m l)) ls)
   where
-    by : (u : Bool) (k : ℕ) → k ≡ if_holds (not u) k + if_holds u k
+    by : (u : Bool) (k : ℕ) → k ≡ cond (not u) k 0 + cond u k 0
     by true k = omega arith
     by false k = omega arith
 
@@ -231,10 +212,8 @@ among_from names q None has is = is
 among_from names q (Some other) has is = ap (has_name names) (sym ((bytes_eq-Decides q other).0 is)) ∙ has
 
 entry_from : (names : List (List ℕ)) (q : List ℕ) (a : Ace) → has_name names q ≡ true → ace_uses q a ≡ true → entry_uses names a ≡ true
-unfolding entry_uses ace_uses
-entry_from names q a has =
-    five_from (is_named q) (is_among names) (λ o. among_from names q o has)
-    (service_name a.service) (source_ports_name a.service) (dest_ports_name a.service) (address_name a.source) (address_name a.dest)
+unfolding entry_uses
+entry_from names q a has uses = any_from (is_named q) (is_among names) (λ o. among_from names q o has) (places a) (sym (uses_places q a) ∙ uses)
 
 line_from : (names : List (List ℕ)) (q : List ℕ) (l : AclLine) → has_name names q ≡ true → line_uses q l ≡ true → uses_one names l ≡ true
 unfolding uses_one line_uses
@@ -249,7 +228,7 @@ line_rests old new is names keeps l = by (uses_one names l) refl
     apart none q uses false e = e
     apart none q uses true e = absurd (false≢true (sym none ∙ line_from names q l e uses))
 
-    by : (b : Bool) → uses_one names l ≡ b → if_holds (not b) (line_pairs (meanings_in new is) l) ≡ if_holds (not b) (line_pairs (meanings_in old is) l)
+    by : (b : Bool) → uses_one names l ≡ b → cond (not b) (line_pairs (meanings_in new is) l) 0 ≡ cond (not b) (line_pairs (meanings_in old is) l) 0
     by true e = refl
     by false e = line_same old new is l (λ q uses. keeps q (apart e q uses (has_name names q) refl))
 

@@ -4,7 +4,7 @@ use Rattle.std.specs.List.{AllByRecursion}
 use Rattle.std.specs.Str.{bytes_eq}
 use Rattle.asa_ace.specs.declared.stating.AclLine.{AclLine}
 use Rattle.asa_config.specs.declared.stating.NewLine.{NewLine}
-use Rattle.asa_acl.specs.Lists.{AccessLines, with_line, without_equal, list_uses}
+use Rattle.asa_acl.specs.Lists.{AccessLines, with_line, without_at, list_uses}
 
 pub record Counted : Type 0 where
   pub list : AccessLines
@@ -44,9 +44,9 @@ without_counted (t ∷ ts) name = if is_list name t then ts else t ∷ without_c
 abbrev pub line_put : Counted → Option ℕ → AclLine → ℕ → Counted
 line_put t place item pairs = record { list = with_line t.list place item; pairs = t.pairs + pairs }
 
--- the list without the first line that equals this one, which has so many pairs
-abbrev pub line_taken : Counted → AclLine → ℕ → Counted
-line_taken t item pairs = record { list = without_equal t.list item; pairs = t.pairs - pairs }
+-- the list without the line at a place, which has so many pairs
+abbrev pub line_taken : Counted → ℕ → ℕ → Counted
+line_taken t place pairs = record { list = without_at t.list place; pairs = t.pairs - pairs }
 
 -- a list of one line
 abbrev pub list_of : List ℕ → AclLine → AccessLines
@@ -85,14 +85,14 @@ put_into ts new pairs None = ts ++ record { list = list_of new.list new.item; pa
 unfoldable pub table_with : List Counted → NewLine → ℕ → List Counted
 table_with ts new pairs = put_into ts new pairs (counted_among ts new.list)
 
--- the lists after the first line that equals this one, which has so many pairs, has left one of them
-abbrev pub without_line : List Counted → AclLine → ℕ → Option Counted → List Counted
-without_line ts item pairs (Some t) = with_counted ts (line_taken t item pairs)
-without_line ts item pairs None = ts
+-- the lists after the line at a place, which has so many pairs, has left one of them
+abbrev pub without_line : List Counted → ℕ → ℕ → Option Counted → List Counted
+without_line ts place pairs (Some t) = with_counted ts (line_taken t place pairs)
+without_line ts place pairs None = ts
 
 -- and has left the list with this name
-unfoldable pub table_without : List Counted → List ℕ → AclLine → ℕ → List Counted
-table_without ts name item pairs = without_line ts item pairs (counted_among ts name)
+unfoldable pub table_without : List Counted → List ℕ → ℕ → ℕ → List Counted
+table_without ts name place pairs = without_line ts place pairs (counted_among ts name)
 
 -- the lists with other numbers of pairs, one for each in order
 abbrev pub recounted : List Counted → List ℕ → List Counted

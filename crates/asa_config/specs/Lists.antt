@@ -53,10 +53,14 @@ line_step c b = do
   _ ← alone b
   line_put c new
 
+-- how many lines of a list stand before the first like this one, where there is one
+abbrev pub place_in : AclLine → Option AccessLines → Option ℕ
+place_in item (Some l) = place_of_equal item l.lines
+place_in item None = None
+
 -- a list has a line like this one
 abbrev pub has_equal : AclLine → Option AccessLines → Bool
-has_equal item (Some l) = is_some (place_of_equal item l.lines)
-has_equal item None = false
+has_equal item o = is_some (place_in item o)
 
 -- a line that is there; another is a fault of the line that removes it
 abbrev pub known_line : Settings → OldLine → Judged (Unit {0})

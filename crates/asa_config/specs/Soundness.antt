@@ -1,13 +1,12 @@
 -- What holds of every configuration.
-use Rattle.std.specs.Prelude.{◌≡◌, ℕ, ◌+◌, ◌≤◌, Bool, true, nat_lt, List, length, map, Option, Some, None, is_some}
+use Rattle.std.specs.Prelude.{◌≡◌, ℕ, ◌+◌, ◌<◌, ◌≤◌, Bool, true, nat_lt, List, length, map, Option, Some, None, is_some}
 use Rattle.std.specs.List.{list_all, AllByRecursion}
 use Rattle.asa_boxes.specs.Meanings.{Meanings}
 use Rattle.asa_boxes.specs.Pairs.{list_pairs}
 use Rattle.asa_ifaces.specs.Interfaces.{Interfaces}
 use Rattle.asa_objects.specs.Tables.{Table}
 use Rattle.asa_config.specs.Counted.{Counted, lists_in}
-use Rattle.asa_ace.specs.declared.stating.AclLine.{AclLine}
-use Rattle.asa_acl.specs.Lists.{AccessLines, without_equal}
+use Rattle.asa_acl.specs.Lists.{AccessLines, without_at}
 use Rattle.asa_config.specs.Settings.{list_among}
 use Rattle.asa_config.specs.Knowing.{meanings_in, pairs_of_lists}
 use Rattle.asa_config.specs.declared.fitting.Counts.{Counts}
@@ -36,10 +35,10 @@ pub record IsKept (objects : Table) (net : Interfaces) (ts : List Counted) (boun
   pub defined : all_defined (lists_in ts) bound ≡ true
   pub global_defined : is_global_defined (lists_in ts) global ≡ true
 
--- the first line of a list that equals this one has so many pairs, which are few
-abbrev pub TakesPairs : Meanings → AclLine → ℕ → Option AccessLines → Type 0
-TakesPairs m item n None = ⊥
-TakesPairs m item n (Some l) = (list_pairs m (without_equal l item).lines + n ≡ list_pairs m l.lines) × (n ≤ 262144)
+-- the line of a list at a place has so many pairs, which are few
+abbrev pub TakesPairs : Meanings → ℕ → ℕ → Option AccessLines → Type 0
+TakesPairs m place n None = ⊥
+TakesPairs m place n (Some l) = (place < length l.lines) × (list_pairs m (without_at l place).lines + n ≡ list_pairs m l.lines) × (n ≤ 262144)
 
 -- the pairs of lists, each and all together
 abbrev pub AreCounts : Meanings → List AccessLines → Counts → Type 0

@@ -1,6 +1,6 @@
 //! Lines of access lists: where a new one goes, and which one is removed.
-ghost use Rattle.std.specs.Prelude.{◌≡◌, ◌+◌, ◌^◌, ◌<◌, ◌≤◌, ◌==◌, true, false, Some, codes, IfOk, IfSome, OnOk, OnErr, is_some, length};
-ghost use Rattle.asa_acl.specs.Lists.{place_of_equal, without_equal};
+ghost use Rattle.std.specs.Prelude.{◌≡◌, ◌+◌, ◌^◌, ◌<◌, ◌≤◌, ◌==◌, true, false, Some, codes, IfOk, IfSome, IsSomeAnd, OnOk, OnErr, is_some, length};
+ghost use Rattle.asa_acl.specs.Lists.{without_at};
 ghost use Rattle.asa_boxes.specs.Pairs as counts;
 ghost use Rattle.asa_config.specs.Counted.{has_room};
 ghost use Rattle.asa_config.specs.Judging.{Gives, Makes, top_read, top_text};
@@ -126,13 +126,13 @@ impl Config {
         self.put_line(new)
     }
 
-    /// Whether the list that has this name has a line like this one.
-    fn has_equal(&self, name: &Name, item: &AclLine) -> bool
-        ensures { result ≡ spec.has_equal item.now (list_among self.now.lists name.now) }
+    /// How many lines of the list that has this name stand before the first like this one, where there is one.
+    fn place_in_list(&self, name: &Name, item: &AclLine) -> Option<u32>
+        ensures { result ≡ spec.place_in item.now (list_among self.now.lists name.now) }
     {
         match self.list(name) {
-            Some(acl) => acl.place_of_equal(item).is_some(),
-            None => false,
+            Some(acl) => acl.place_of_equal(item),
+            None => None,
         }
     }
 
@@ -146,38 +146,36 @@ impl Config {
         }
     }
 
-    /// How many pairs the first line of a list has that equals this one.
-    fn pairs_of_equal(&self, acl: &Acl, item: &AclLine) -> Result<u128, AllocError>
-        requires { is_some (place_of_equal item.now acl.now.lines) ≡ true }
-        ensures { IfOk result (λ n. counts.list_pairs (meanings_of self.now) (without_equal acl.now item.now).lines + n ≡ counts.list_pairs (meanings_of self.now) acl.now.lines) }
+    /// How many pairs the line at a place of a list has.
+    fn pairs_at(&self, acl: &Acl, place: u32) -> Result<u128, AllocError>
+        requires { place < length acl.now.lines }
+        ensures { IfOk result (λ n. counts.list_pairs (meanings_of self.now) (without_at acl.now place).lines + n ≡ counts.list_pairs (meanings_of self.now) acl.now.lines) }
     {
-        let Some(place) = acl.place_of_equal(item) else {
-            unreachable!()
-        };
         let line = acl.lines()[place as usize].line();
         self.pairs_of(line)
     }
 
-    /// How many pairs the first line has that equals this one in the list that has this name.
-    fn pairs_in_list(&self, name: &Name, item: &AclLine) -> Result<u64, AllocError>
-        requires { spec.has_equal item.now (list_among self.now.lists name.now) ≡ true }
-        ensures { IfOk result (λ n. TakesPairs (meanings_of self.now) item.now n (list_among self.now.lists name.now)) }
+    /// How many pairs the line at a place of the list has that has this name.
+    fn pairs_in_list(&self, name: &Name, place: u32) -> Result<u64, AllocError>
+        requires { IsSomeAnd (list_among self.now.lists name.now) (λ l. place < length l.lines) }
+        ensures { IfOk result (λ n. TakesPairs (meanings_of self.now) place n (list_among self.now.lists name.now)) }
     {
         let Some(acl) = self.list(name) else {
             unreachable!()
         };
         let _most = self.pair_count();
-        let pairs = self.pairs_of_equal(acl, item)?;
+        let pairs = self.pairs_at(acl, place)?;
         Ok(pairs as u64)
     }
 
-    /// Takes a line, of which the pairs are counted, out of the list that has this name.
-    fn take_counted(&mut self, name: &Name, item: &AclLine, pairs: u64) -> Result<(), AllocError>
-        requires { TakesPairs (meanings_of self.old) item.now pairs (list_among self.old.lists name.now) }
-        ensures ok { OnOk result (self.new ≡ spec.with_lists self.old (spec.without_line self.old.lists item.now (list_among self.old.lists name.now))) }
+    /// Takes a line, of which the place and the pairs are told, out of its list.
+    fn take_counted(&mut self, old: &OldLine, place: u32, pairs: u64) -> Result<(), AllocError>
+        requires found { spec.place_in old.now.item (list_among self.old.lists old.now.list) ≡ Some place }
+        requires told { TakesPairs (meanings_of self.old) place pairs (list_among self.old.lists old.now.list) }
+        ensures ok { OnOk result (self.new ≡ spec.with_lists self.old (spec.without_line self.old.lists old.now.item (list_among self.old.lists old.now.list))) }
         ensures err { OnErr result (self.new ≡ self.old) }
     {
-        self.table.take(name, item, pairs)
+        self.table.take(&old.list, place, pairs)
     }
 
     /// Removes a list that is bound nowhere.
@@ -201,18 +199,18 @@ impl Config {
         Ok(())
     }
 
-    /// Removes a line that is there; with its last line the list goes.
+    /// Removes a line that is there, at the place that is told; with its last line the list goes.
     #[tactic(auto, unfolding(crate::specs::Lists::line_gone))]
-    fn remove_line(&mut self, old: &OldLine) -> Result<(), EditRefusal>
+    fn remove_line(&mut self, old: &OldLine, place: u32) -> Result<(), EditRefusal>
         requires there { is_some (list_named self.old old.now.list) ≡ true }
-        requires equal { spec.has_equal old.now.item (list_among self.old.lists old.now.list) ≡ true }
+        requires found { spec.place_in old.now.item (list_among self.old.lists old.now.list) ≡ Some place }
         ensures { Makes result self.old self.new (spec.line_gone self.old old.now) }
     {
         if self.has_one_line(&old.list) {
             return self.remove_list(&old.list);
         }
-        let pairs = self.pairs_in_list(&old.list, &old.item)?;
-        self.take_counted(&old.list, &old.item, pairs)?;
+        let pairs = self.pairs_in_list(&old.list, place)?;
+        self.take_counted(old, place, pairs)?;
         Ok(())
     }
 
@@ -222,11 +220,11 @@ impl Config {
         ensures { Makes result self.old self.new (spec.no_line_step self.old block.now) }
     {
         let old = old_line_of(self, block)?;
-        if !self.has_equal(&old.list, &old.item) {
+        let Some(place) = self.place_in_list(&old.list, &old.item) else {
             return Err(refused(1, EditFault::NoSuchLine));
-        }
+        };
         alone(block)?;
-        self.remove_line(&old)
+        self.remove_line(&old, place)
     }
 }
 

@@ -130,14 +130,15 @@ impl KeptList {
         Ok(())
     }
 
-    /// Removes the first line that equals this one, which has so many pairs. On want of memory the list is as it was.
-    pub(crate) fn take(&mut self, item: &AclLine, pairs: u64) -> Result<(), AllocError>
-        requires { pairs ≤ self.old.pairs }
-        ensures ok { OnOk result (self.new ≡ spec.line_taken self.old item.now pairs) }
+    /// Removes the line at a place, which has so many pairs. On want of memory the list is as it was.
+    pub(crate) fn take(&mut self, place: u32, pairs: u64) -> Result<(), AllocError>
+        requires within { place < length self.old.list.lines }
+        requires few { pairs ≤ self.old.pairs }
+        ensures ok { OnOk result (self.new ≡ spec.line_taken self.old place pairs) }
         ensures err { OnErr result (self.new ≡ self.old) }
     {
         let list = Arc::make_mut(&mut self.list)?;
-        let _found = list.acl.remove_equal(item);
+        list.acl.remove_at(place);
         self.pairs -= pairs;
         Ok(())
     }

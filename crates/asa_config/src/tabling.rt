@@ -53,19 +53,20 @@ fn put_into(
     }
 }
 
-/// Removes the first line that equals this one from the list of a map that has this name.
+/// Removes the line at a place from the list of a map that has this name.
 fn take_from(
     lists: &mut IndexMap<Name, KeptList>,
     name: &Name,
-    item: &AclLine,
+    place: u32,
     pairs: u64,
 ) -> Result<(), AllocError>
-    requires { IsSomeAnd (lookup (bytes_eq name.now) lists.old.entries) (λ t. pairs ≤ t.pairs) }
-    ensures ok { OnOk result (IfSome (lookup (bytes_eq name.now) lists.old.entries) (λ t. lists.new.entries ≡ set_value (bytes_eq name.now) lists.old.entries (spec.line_taken t item.now pairs))) }
+    requires within { IsSomeAnd (lookup (bytes_eq name.now) lists.old.entries) (λ t. place < length t.list.lines) }
+    requires few { IsSomeAnd (lookup (bytes_eq name.now) lists.old.entries) (λ t. pairs ≤ t.pairs) }
+    ensures ok { OnOk result (IfSome (lookup (bytes_eq name.now) lists.old.entries) (λ t. lists.new.entries ≡ set_value (bytes_eq name.now) lists.old.entries (spec.line_taken t place pairs))) }
     ensures err { OnErr result (lists.new.entries ≡ lists.old.entries) }
 {
     match lists.get_mut(name) {
-        Some(kept) => kept.take(item, pairs),
+        Some(kept) => kept.take(place, pairs),
         None => unreachable!(),
     }
 }
@@ -192,15 +193,16 @@ impl ListTable {
         self.begin(list, kept)
     }
 
-    /// Removes the first line that equals this one, which has so many pairs, from a list that keeps other lines. On want
-    /// of memory all is as it was.
+    /// Removes the line at a place, which has so many pairs, from a list that keeps other lines. On want of memory all is
+    /// as it was.
     #[tactic(auto, unfolding(crate::specs::Counted::table_without))]
-    pub(crate) fn take(&mut self, name: &Name, item: &AclLine, pairs: u64) -> Result<(), AllocError>
-        requires { IsSomeAnd (spec.counted_among self.old name.now) (λ t. pairs ≤ t.pairs) }
-        ensures ok { OnOk result (self.new ≡ spec.table_without self.old name.now item.now pairs) }
+    pub(crate) fn take(&mut self, name: &Name, place: u32, pairs: u64) -> Result<(), AllocError>
+        requires within { IsSomeAnd (spec.counted_among self.old name.now) (λ t. place < length t.list.lines) }
+        requires few { IsSomeAnd (spec.counted_among self.old name.now) (λ t. pairs ≤ t.pairs) }
+        ensures ok { OnOk result (self.new ≡ spec.table_without self.old name.now place pairs) }
         ensures err { OnErr result (self.new ≡ self.old) }
     {
-        take_from(&mut self.lists, name, item, pairs)?;
+        take_from(&mut self.lists, name, place, pairs)?;
         self.pairs -= pairs;
         Ok(())
     }

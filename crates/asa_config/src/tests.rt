@@ -2,11 +2,10 @@
 ghost use Rattle.std.specs.Prelude.{◌<◌, ◌^◌, length};
 
 use crate::{Class, Config, EditFault, EditRefusal, class_of, cut_blocks};
+use asa_acl::Acl;
 use asa_base::{LineBox, Name, PortRange, Range, Service};
-use asa_text::Addr;
-use std::alloc::Global;
+use asa_text::{Addr, Block, Items};
 use std::process::Abort;
-use std::test::Fail;
 
 const BASE: &[u8] = b"interface GigabitEthernet0/0\n\
     \x20nameif outside\n\
@@ -18,65 +17,89 @@ const BASE: &[u8] = b"interface GigabitEthernet0/0\n\
     \x20ip address 10.0.0.1 255.255.255.0\n\
     access-list L extended permit ip any any\n";
 
-/// A configuration after the blocks of a startup text.
-fn taken(alloc: Global, config: Config, text: &[u8]) -> Result<Config, Fail>
+/// The blocks of a text.
+fn blocks_of(rt: &(impl Abort + AllocGlobal), text: &[u8]) -> Items<Block>
     requires { length text.now < 2 ^ 31 }
 {
-    let blocks = cut_blocks(alloc, text, 1)?.map_err(|_| "a line before the first block")?;
+    let blocks = cut_blocks(rt.alloc(), text, 1).expect(rt, "memory for the blocks");
+    blocks.expect(rt, "a top-level line before the others")
+}
+
+/// A configuration after some blocks of a startup text.
+fn stepped(rt: &impl Abort, config: Config, blocks: &[Block]) -> Config {
     let mut config = config;
-    for block in blocks.as_slice() {
-        config = config.step(block, true)?;
+    for block in blocks {
+        config = config.step(block, true).expect(rt, "a block that is taken");
     }
-    Ok(config)
+    config
+}
+
+/// A configuration after the blocks of a startup text.
+fn taken(rt: &(impl Abort + AllocGlobal), config: Config, text: &[u8]) -> Config
+    requires { length text.now < 2 ^ 31 }
+{
+    stepped(rt, config, blocks_of(rt, text).as_slice())
 }
 
 /// Two interfaces, a list with one line, and the blocks of a startup text.
-fn configured(alloc: Global, text: &[u8]) -> Result<Config, Fail>
+fn configured(rt: &(impl Abort + AllocGlobal), text: &[u8]) -> Config
     requires { length text.now < 2 ^ 31 }
 {
-    let config = taken(alloc, Config::empty(alloc), BASE)?;
-    taken(alloc, config, text)
+    let config = taken(rt, Config::empty(rt.alloc()), BASE);
+    taken(rt, config, text)
 }
 
 /// What the last block of a text is answered, the others being taken.
-fn answer_to(alloc: Global, text: &[u8], startup: bool) -> Result<Result<(), EditRefusal>, Fail>
+fn answer_to(rt: &(impl Abort + AllocGlobal), text: &[u8], startup: bool) -> Result<(), EditRefusal>
     requires { length text.now < 2 ^ 31 }
 {
-    let mut config = taken(alloc, Config::empty(alloc), BASE)?;
-    let blocks = cut_blocks(alloc, text, 1)?.map_err(|_| "a line before the first block")?;
-    let (last, others) = blocks.as_slice().split_last().ok_or("no block")?;
-    for block in others {
-        config = config.step(block, true)?;
-    }
-    Ok(config.step(last, startup).map(|_| ()))
+    let blocks = blocks_of(rt, text);
+    let (last, others) = blocks.as_slice().split_last().expect(rt, "a block");
+    let config = taken(rt, Config::empty(rt.alloc()), BASE);
+    stepped(rt, config, others).step(last, startup).map(|_| ())
 }
 
 /// Asserts that the last block of a text is refused at a line of it.
-fn assert_refused(
-    rt: &(impl Abort + AllocGlobal),
-    line: u32,
-    fault: EditFault,
-    text: &[u8],
-) -> Result<(), Fail>
+fn assert_refused(rt: &(impl Abort + AllocGlobal), line: u32, fault: EditFault, text: &[u8])
     requires { length text.now < 2 ^ 31 }
 {
-    let answer = answer_to(rt.alloc(), text, true)?;
+    let answer = answer_to(rt, text, true);
     assert_eq!(rt; answer, Err(EditRefusal::At { line, fault }));
-    Ok(())
 }
 
 /// Asserts that the one block of a text has this class.
-fn assert_class(rt: &(impl Abort + AllocGlobal), class: Class, text: &[u8]) -> Result<(), Fail>
+fn assert_class(rt: &(impl Abort + AllocGlobal), class: Class, text: &[u8])
     requires { length text.now < 2 ^ 31 }
 {
-    let blocks = cut_blocks(rt.alloc(), text, 1)?.map_err(|_| "a line before the first block")?;
-    let block = blocks.as_slice().first().ok_or("no block")?;
+    let blocks = blocks_of(rt, text);
+    let block = blocks.as_slice().first().expect(rt, "a block");
     assert_eq!(rt; class_of(block), class);
-    Ok(())
 }
 
-fn name(text: &[u8]) -> Result<Name, Fail> {
-    Ok(Name::new(text).ok_or("no name")?)
+fn name(rt: &impl Abort, text: &[u8]) -> Name {
+    Name::new(text).expect(rt, "a name")
+}
+
+/// The boxes of the list of this name.
+fn boxes_in(rt: &(impl Abort + AllocGlobal), config: &Config, text: &[u8]) -> Items<LineBox> {
+    let name = name(rt, text);
+    let list = config.list(&name).expect(rt, "a list");
+    config
+        .boxes(rt.alloc(), list)
+        .expect(rt, "memory for the boxes")
+}
+
+/// Whether there is a list, and it has this name.
+fn is_named(list: Option<&Acl>, name: &Name) -> bool {
+    match list {
+        Some(list) => list.name() == name,
+        None => false,
+    }
+}
+
+/// How many lines the n-th list has.
+fn lines_of(rt: &impl Abort, config: &Config, n: u32) -> u32 {
+    config.list_at(n).expect(rt, "a list").len()
 }
 
 fn bad(column: u32) -> EditFault {
@@ -84,99 +107,93 @@ fn bad(column: u32) -> EditFault {
 }
 
 #[test]
-fn a_block_belongs_to_a_part_of_the_policy(rt: HostRuntime) -> Result<(), Fail> {
-    assert_class(&rt, Class::Passed, b"mtu inside 1500\n")?;
-    assert_class(&rt, Class::Passed, b"no\n")?;
-    assert_class(&rt, Class::Passed, b"access-list X standard permit any\n")?;
+fn a_block_belongs_to_a_part_of_the_policy(rt: HostRuntime) {
+    assert_class(&rt, Class::Passed, b"mtu inside 1500\n");
+    assert_class(&rt, Class::Passed, b"no\n");
+    assert_class(&rt, Class::Passed, b"access-list X standard permit any\n");
     assert_class(
         &rt,
         Class::Access,
         b"no access-list X standard permit any\n",
-    )?;
-    assert_class(&rt, Class::Passed, b"access-list alert-interval 5\n")?;
-    assert_class(&rt, Class::Passed, b"no interface X\n")?;
-    assert_class(&rt, Class::Passed, b"asp load-balance per-packet\n")?;
+    );
+    assert_class(&rt, Class::Passed, b"access-list alert-interval 5\n");
+    assert_class(&rt, Class::Passed, b"no interface X\n");
+    assert_class(&rt, Class::Passed, b"asp load-balance per-packet\n");
     assert_class(
         &rt,
         Class::Other,
         b"asp rule-engine transactional-commit nat\n",
-    )?;
-    assert_class(&rt, Class::Other, b"timeout\n")?;
-    assert_class(&rt, Class::Nat, b"nat (a,b) source static any any\n")?;
-    assert_class(&rt, Class::Nat, b"object network A\n no nat\n")?;
-    assert_class(&rt, Class::Both, b"object network A\n host 192.0.2.1\n")?;
-    assert_class(&rt, Class::Both, b"no object-group service G\n")?;
-    Ok(())
+    );
+    assert_class(&rt, Class::Other, b"timeout\n");
+    assert_class(&rt, Class::Nat, b"nat (a,b) source static any any\n");
+    assert_class(&rt, Class::Nat, b"object network A\n no nat\n");
+    assert_class(&rt, Class::Both, b"object network A\n host 192.0.2.1\n");
+    assert_class(&rt, Class::Both, b"no object-group service G\n");
 }
 
 #[test]
-fn a_list_line_is_refused_at_its_word(rt: HostRuntime) -> Result<(), Fail> {
+fn a_list_line_is_refused_at_its_word(rt: HostRuntime) {
     let unknown = EditFault::Unknown { column: 16 };
-    assert_refused(&rt, 1, bad(20), b"access-list L line 0 permit ip any any\n")?;
+    assert_refused(&rt, 1, bad(20), b"access-list L line 0 permit ip any any\n");
     assert_refused(
         &rt,
         1,
         bad(20),
         b"access-list L line 65537 permit ip any any\n",
-    )?;
-    assert_refused(&rt, 1, bad(14), b"access-list L\n")?;
-    assert_refused(&rt, 2, bad(2), b"access-list L permit ip any any\n x\n")?;
-    assert_refused(&rt, 1, unknown, b"no access-list M nonsense\n")?;
+    );
+    assert_refused(&rt, 1, bad(14), b"access-list L\n");
+    assert_refused(&rt, 2, bad(2), b"access-list L permit ip any any\n x\n");
+    assert_refused(&rt, 1, unknown, b"no access-list M nonsense\n");
     assert_refused(
         &rt,
         1,
         EditFault::NoSuchLine,
         b"no access-list L deny ip any any\n",
-    )?;
-    Ok(())
+    );
 }
 
 #[test]
-fn an_access_group_is_refused_at_its_word(rt: HostRuntime) -> Result<(), Fail> {
+fn an_access_group_is_refused_at_its_word(rt: HostRuntime) {
     let unknown = EditFault::Unknown { column: 14 };
     let nowhere = EditFault::NoSuchInterface { column: 29 };
     let override_ = EditFault::Unsupported { column: 36 };
     let control = EditFault::Unsupported { column: 23 };
-    assert_refused(&rt, 1, unknown, b"access-group M in interface inside\n")?;
-    assert_refused(&rt, 1, bad(16), b"access-group L at interface inside\n")?;
-    assert_refused(&rt, 1, nowhere, b"access-group L in interface lan\n")?;
+    assert_refused(&rt, 1, unknown, b"access-group M in interface inside\n");
+    assert_refused(&rt, 1, bad(16), b"access-group L at interface inside\n");
+    assert_refused(&rt, 1, nowhere, b"access-group L in interface lan\n");
     assert_refused(
         &rt,
         1,
         override_,
         b"access-group L in interface inside per-user-override\n",
-    )?;
-    assert_refused(&rt, 1, control, b"access-group L global control-plane\n")?;
-    assert_refused(&rt, 1, EditFault::NotBound, b"no access-group L global\n")?;
+    );
+    assert_refused(&rt, 1, control, b"access-group L global control-plane\n");
+    assert_refused(&rt, 1, EditFault::NotBound, b"no access-group L global\n");
     assert_refused(
         &rt,
         1,
         EditFault::NotBound,
         b"access-group L in interface inside\nno access-group L out interface inside\n",
-    )?;
-    Ok(())
+    );
 }
 
 #[test]
-fn a_list_that_is_bound_keeps_its_last_line(rt: HostRuntime) -> Result<(), Fail> {
+fn a_list_that_is_bound_keeps_its_last_line(rt: HostRuntime) {
     let in_use = EditFault::InUse {
-        by: name(b"access-group")?,
+        by: name(&rt, b"access-group"),
     };
     assert_refused(
         &rt,
         1,
         in_use,
         b"access-group L global\nno access-list L permit ip any any\n",
-    )?;
-    let config = configured(rt.alloc(), b"no access-list L permit ip any any\n")?;
+    );
+    let config = configured(&rt, b"no access-list L permit ip any any\n");
     assert_eq!(rt; config.list_count(), 0);
-    Ok(())
 }
 
 #[test]
-fn lines_of_routes_times_and_levels_are_refused_at_their_words(
-    rt: HostRuntime,
-) -> Result<(), Fail> {
+fn lines_of_routes_times_and_levels_are_refused_at_their_words(rt: HostRuntime) {
     let tunneled = EditFault::Unsupported { column: 31 };
     let nowhere = EditFault::NoSuchInterface { column: 7 };
     assert_refused(
@@ -184,84 +201,78 @@ fn lines_of_routes_times_and_levels_are_refused_at_their_words(
         1,
         tunneled,
         b"route outside 0 0 203.0.113.1 tunneled\n",
-    )?;
-    assert_refused(&rt, 1, nowhere, b"route lan 0 0 203.0.113.1\n")?;
-    assert_refused(&rt, 2, bad(2), b"route outside 0 0 203.0.113.1\n x\n")?;
+    );
+    assert_refused(&rt, 1, nowhere, b"route lan 0 0 203.0.113.1\n");
+    assert_refused(&rt, 2, bad(2), b"route outside 0 0 203.0.113.1\n x\n");
     assert_refused(
         &rt,
         1,
         EditFault::NoSuchLine,
         b"no route outside 0 0 203.0.113.1\n",
-    )?;
-    assert_refused(&rt, 1, bad(14), b"timeout conn 1:00\n")?;
-    assert_refused(&rt, 1, bad(30), b"same-security-traffic permit any\n")?;
+    );
+    assert_refused(&rt, 1, bad(14), b"timeout conn 1:00\n");
+    assert_refused(&rt, 1, bad(30), b"same-security-traffic permit any\n");
     assert_refused(
         &rt,
         1,
         bad(46),
         b"same-security-traffic permit inter-interface x\n",
-    )?;
-    Ok(())
+    );
 }
 
 #[test]
-fn an_interface_block_is_refused_at_its_line(rt: HostRuntime) -> Result<(), Fail> {
+fn an_interface_block_is_refused_at_its_line(rt: HostRuntime) {
     assert_refused(
         &rt,
         1,
         EditFault::NameTaken,
         b"interface GigabitEthernet0/1\n",
-    )?;
+    );
     assert_refused(
         &rt,
         2,
         EditFault::NameTaken,
         b"interface X\n nameif inside\n",
-    )?;
-    assert_refused(&rt, 3, bad(9), b"interface X\n shutdown\n nameif any\n")?;
-    let late = answer_to(rt.alloc(), b"interface X\n nameif\n", false)?;
+    );
+    assert_refused(&rt, 3, bad(9), b"interface X\n shutdown\n nameif any\n");
+    let late = answer_to(&rt, b"interface X\n nameif\n", false);
     let refusal = EditRefusal::At {
         line: 1,
         fault: EditFault::NotAfterStartup,
     };
     assert_eq!(rt; late, Err(refusal));
-    Ok(())
 }
 
 #[test]
-fn a_list_that_is_defined_again_goes_last(rt: HostRuntime) -> Result<(), Fail> {
+fn a_list_that_is_defined_again_goes_last(rt: HostRuntime) {
     let config = configured(
-        rt.alloc(),
+        &rt,
         b"access-list M permit ip any any\n\
             no access-list L permit ip any any\n\
             access-list L line 7 deny ip any any\n\
             access-group M in interface inside\n\
             access-group L global\n",
-    )?;
-    let first = config.list_at(0).ok_or("no list")?;
-    assert_eq!(rt; *first.name(), name(b"M")?);
-    let bound = config.list_on(1, true).ok_or("no list")?;
-    assert_eq!(rt; *bound.name(), name(b"M")?);
+    );
+    let (m, l) = (name(&rt, b"M"), name(&rt, b"L"));
+    assert!(rt; is_named(config.list_at(0), &m));
+    assert!(rt; is_named(config.list_on(1, true), &m));
     assert!(rt; config.list_on(1, false).is_none());
-    let global = config.global_list().ok_or("no list")?;
-    assert_eq!(rt; *global.name(), name(b"L")?);
-    assert_eq!(rt; global.len(), 1);
-    Ok(())
+    assert!(rt; is_named(config.global_list(), &l));
+    assert_eq!(rt; config.global_list().map(|list| list.len()), Some(1));
 }
 
 #[test]
-fn a_list_has_a_box_for_each_range_of_its_ports(rt: HostRuntime) -> Result<(), Fail> {
+fn a_list_has_a_box_for_each_range_of_its_ports(rt: HostRuntime) {
     let config = configured(
-        rt.alloc(),
+        &rt,
         b"access-list M remark web\n\
             access-list M deny tcp host 10.0.0.9 any neq 80\n\
             access-list M permit ip any any6\n\
             access-list M permit udp any interface inside inactive\n",
-    )?;
+    );
     assert_eq!(rt; config.pair_count(), 3);
-    let list = config.list(&name(b"M")?).ok_or("no list")?;
-    let boxes = config.boxes(rt.alloc(), list)?;
-    let ports = PortRange::new(81, 65535).ok_or("no range")?;
+    let boxes = boxes_in(&rt, &config, b"M");
+    let ports = PortRange::new(81, 65535).expect(&rt, "a range");
     let last = LineBox {
         source: Range::only(Addr(0x0a00_0009)),
         dest: Range::all(),
@@ -277,68 +288,74 @@ fn a_list_has_a_box_for_each_range_of_its_ports(rt: HostRuntime) -> Result<(), F
     };
     assert_eq!(rt; boxes.len(), 2);
     assert_eq!(rt; boxes.as_slice().last(), Some(&last));
-    Ok(())
+}
+
+/// The configuration that an edit by the first of some blocks makes, after the startup.
+fn edited(rt: &impl Abort, before: &Config, blocks: &[Block]) -> Config {
+    let block = blocks.first().expect(rt, "a block");
+    before
+        .edit(block, false)
+        .expect(rt, "a block that is taken")
+}
+
+fn has_interface(config: &Config, name: &Name) -> bool {
+    config.ifaces().interface_of(name).is_some()
 }
 
 #[test]
-fn an_edit_leaves_the_configuration_before_it(rt: HostRuntime) -> Result<(), Fail> {
-    let before = configured(rt.alloc(), b"")?;
-    let blocks = cut_blocks(rt.alloc(), b"access-list L line 1 deny ip any any\n", 1)?.map_err(
-        |_| "a line before the first block",
-    )?;
-    let block = blocks.as_slice().first().ok_or("no block")?;
-    let after = before.edit(block, false)?;
-    let old = before.list_at(0).ok_or("no list")?;
-    let new = after.list_at(0).ok_or("no list")?;
-    assert_eq!(rt; old.len(), 1);
-    assert_eq!(rt; new.len(), 2);
-    assert!(rt; after.ifaces().interface_of(&name(b"inside")?).is_some());
+fn an_edit_leaves_the_configuration_before_it(rt: HostRuntime) {
+    let before = configured(&rt, b"");
+    let blocks = blocks_of(&rt, b"access-list L line 1 deny ip any any\n");
+    let after = edited(&rt, &before, blocks.as_slice());
+    assert_eq!(rt;
+        (lines_of(&rt, &before, 0), lines_of(&rt, &after, 0)),
+        (1, 2)
+    );
+    assert!(rt; has_interface(&after, &name(&rt, b"inside")));
     assert_eq!(rt; after.bindings().len(), 0);
     assert!(rt; after.global().is_none());
-    Ok(())
 }
 
 #[test]
-fn a_block_of_an_object_or_a_group_is_refused_at_its_line(rt: HostRuntime) -> Result<(), Fail> {
+fn a_block_of_an_object_or_a_group_is_refused_at_its_line(rt: HostRuntime) {
     let unknown = EditFault::Unknown { column: 15 };
     let security = EditFault::Unsupported { column: 14 };
-    assert_refused(&rt, 1, bad(17), b"object network A\n")?;
+    assert_refused(&rt, 1, bad(17), b"object network A\n");
     assert_refused(
         &rt,
         2,
         unknown,
         b"object-group network G\n group-object H\n",
-    )?;
-    assert_refused(&rt, 1, security, b"object-group security S\n")?;
+    );
+    assert_refused(&rt, 1, security, b"object-group security S\n");
     assert_refused(
         &rt,
         1,
         EditFault::NameTaken,
         b"object network A\n host 10.0.0.9\nobject service A\n service tcp\n",
-    )?;
+    );
     assert_refused(
         &rt,
         3,
         EditFault::NoSuchLine,
         b"object-group network G\n network-object host 10.0.0.9\n no network-object host 10.0.0.8\n",
-    )?;
+    );
     assert_refused(
         &rt,
         3,
         EditFault::NotBuilt,
         b"object network A\n host 10.0.0.9\n nat (inside,outside) static 203.0.113.9\n",
-    )?;
-    Ok(())
+    );
 }
 
 #[test]
-fn a_group_never_reaches_itself(rt: HostRuntime) -> Result<(), Fail> {
+fn a_group_never_reaches_itself(rt: HostRuntime) {
     assert_refused(
         &rt,
         2,
         EditFault::Cycle,
         b"object-group network G\n group-object G\n",
-    )?;
+    );
     assert_refused(
         &rt,
         2,
@@ -346,41 +363,43 @@ fn a_group_never_reaches_itself(rt: HostRuntime) -> Result<(), Fail> {
         b"object-group network G\n network-object host 10.0.0.9\n\
             object-group network H\n group-object G\n\
             object-group network G\n group-object H\n",
-    )?;
-    Ok(())
+    );
 }
 
 #[test]
-fn a_removal_is_refused_at_its_word(rt: HostRuntime) -> Result<(), Fail> {
+fn a_removal_is_refused_at_its_word(rt: HostRuntime) {
     let unknown = EditFault::Unknown { column: 19 };
     let security = EditFault::Unsupported { column: 17 };
-    assert_refused(&rt, 1, unknown, b"no object network A\n")?;
+    assert_refused(&rt, 1, unknown, b"no object network A\n");
     assert_refused(
         &rt,
         1,
         bad(19),
         b"object service S\n service tcp\nno object network S\n",
-    )?;
+    );
     assert_refused(
         &rt,
         1,
         bad(21),
         b"object network A\n host 10.0.0.9\nno object network A x\n",
-    )?;
+    );
     assert_refused(
         &rt,
         2,
         bad(2),
         b"object network A\n host 10.0.0.9\nno object network A\n host 10.0.0.9\n",
-    )?;
-    assert_refused(&rt, 1, security, b"no object-group security S\n")?;
-    Ok(())
+    );
+    assert_refused(&rt, 1, security, b"no object-group security S\n");
 }
 
 #[test]
-fn what_is_named_stays_and_its_first_user_is_told(rt: HostRuntime) -> Result<(), Fail> {
-    let group = EditFault::InUse { by: name(b"G1")? };
-    let list = EditFault::InUse { by: name(b"M")? };
+fn what_is_named_stays_and_its_first_user_is_told(rt: HostRuntime) {
+    let group = EditFault::InUse {
+        by: name(&rt, b"G1"),
+    };
+    let list = EditFault::InUse {
+        by: name(&rt, b"M"),
+    };
     assert_refused(
         &rt,
         1,
@@ -390,7 +409,7 @@ fn what_is_named_stays_and_its_first_user_is_told(rt: HostRuntime) -> Result<(),
             object-group network G1\n network-object object A\n\
             access-list K permit ip object A any\n\
             no object network A\n",
-    )?;
+    );
     assert_refused(
         &rt,
         1,
@@ -399,47 +418,43 @@ fn what_is_named_stays_and_its_first_user_is_told(rt: HostRuntime) -> Result<(),
             access-list M permit ip any object-group G\n\
             access-list K permit ip object-group G any\n\
             no object-group network G\n",
-    )?;
-    Ok(())
+    );
 }
 
 #[test]
-fn what_nothing_names_any_more_goes(rt: HostRuntime) -> Result<(), Fail> {
+fn what_nothing_names_any_more_goes(rt: HostRuntime) {
     let config = configured(
-        rt.alloc(),
+        &rt,
         b"object network A\n host 10.0.0.9\n\
             object-group network G\n network-object object A\n\
             access-list M permit ip object-group G any\n\
             no access-list M permit ip object-group G any\n\
             no object-group network G\n\
             no object network A\n",
-    )?;
+    );
     assert_eq!(rt; config.objects().len(), 0);
     assert_eq!(rt; config.pair_count(), 1);
-    Ok(())
 }
 
 #[test]
-fn a_list_has_the_members_of_its_groups_in_order(rt: HostRuntime) -> Result<(), Fail> {
+fn a_list_has_the_members_of_its_groups_in_order(rt: HostRuntime) {
     let config = configured(
-        rt.alloc(),
+        &rt,
         b"object network A\n host 10.0.0.9\n\
             object-group network G\n network-object 10.0.2.0 255.255.255.0\n network-object object A\n\
             object-group network H\n network-object host 10.0.0.7\n group-object G\n\
             object-group service W tcp\n port-object eq 80\n port-object eq 443\n\
             access-list M permit tcp object-group H any object-group W\n",
-    )?;
+    );
     assert_eq!(rt; config.pair_count(), 7);
-    let list = config.list(&name(b"M")?).ok_or("no list")?;
-    let boxes = config.boxes(rt.alloc(), list)?;
+    let boxes = boxes_in(&rt, &config, b"M");
     assert_eq!(rt; boxes.len(), 6);
-    let first = boxes.as_slice().first().ok_or("no box")?;
-    let last = boxes.as_slice().last().ok_or("no box")?;
+    let first = boxes.as_slice().first().expect(&rt, "a box");
+    let last = boxes.as_slice().last().expect(&rt, "a box");
     assert_eq!(rt; first.source, Range::only(Addr(0x0a00_0007)));
     assert_eq!(rt; first.service.dport, PortRange::only(80));
     assert_eq!(rt; last.source, Range::only(Addr(0x0a00_0009)));
     assert_eq!(rt; last.service.dport, PortRange::only(443));
-    Ok(())
 }
 
 /// Eighteen lines, each with four services from the one object to itself.
@@ -462,57 +477,60 @@ const EIGHTEEN: &[u8] = b"access-list M permit tcp object W neq 1 object W neq 1
     access-list M permit tcp object W neq 1 object W neq 17\n\
     access-list M permit tcp object W neq 1 object W neq 18\n";
 
-#[test]
-fn a_value_is_refused_under_which_there_are_too_many_pairs(rt: HostRuntime) -> Result<(), Fail> {
-    // A range from the second to the last but one address has 62 prefixes: 18 lines of 4 services have 276,768 pairs.
-    let pairs = EditFault::TooLarge { pairs: 276_769 };
-    let config = configured(rt.alloc(), b"object network W\n host 10.0.0.9\n")?;
-    let config = taken(rt.alloc(), config, EIGHTEEN)?;
-    assert_eq!(rt; config.pair_count(), 73);
-    let wide: &[u8] = b"object network W\n range 0.0.0.1 255.255.255.254\n";
-    let blocks = cut_blocks(rt.alloc(), wide, 1)?.map_err(|_| "a line before the first block")?;
-    let block = blocks.as_slice().first().ok_or("no block")?;
-    let refusal = EditRefusal::At {
-        line: 1,
-        fault: pairs,
-    };
-    assert_eq!(rt; config.edit(block, true).map(|_| ()), Err(refusal));
-    assert_eq!(rt; config.pair_count(), 73);
-    let config = taken(
-        rt.alloc(),
-        config,
-        b"no access-list M permit tcp object W neq 1 object W neq 18\n",
-    )?;
-    let config = config.step(block, true)?;
-    assert_eq!(rt; config.pair_count(), 261_393);
-    Ok(())
+/// What an edit by the first block of a text is answered, before the end of the startup.
+fn edit_answer(
+    rt: &(impl Abort + AllocGlobal),
+    config: &Config,
+    text: &[u8],
+) -> Result<(), EditRefusal>
+    requires { length text.now < 2 ^ 31 }
+{
+    let blocks = blocks_of(rt, text);
+    let block = blocks.as_slice().first().expect(rt, "a block");
+    config.edit(block, true).map(|_| ())
 }
 
 #[test]
-fn a_changed_name_counts_each_line_that_uses_it_once(rt: HostRuntime) -> Result<(), Fail> {
+fn a_value_is_refused_under_which_there_are_too_many_pairs(rt: HostRuntime) {
+    // A range from the second to the last but one address has 62 prefixes: 18 lines of 4 services have 276,768 pairs.
+    let refusal = EditRefusal::At {
+        line: 1,
+        fault: EditFault::TooLarge { pairs: 276_769 },
+    };
+    let wide = b"object network W\n range 0.0.0.1 255.255.255.254\n";
+    let config = configured(&rt, b"object network W\n host 10.0.0.9\n");
+    let config = taken(&rt, config, EIGHTEEN);
+    assert_eq!(rt; config.pair_count(), 73);
+    assert_eq!(rt; edit_answer(&rt, &config, wide), Err(refusal));
+    assert_eq!(rt; config.pair_count(), 73);
+    let config = taken(
+        &rt,
+        config,
+        b"no access-list M permit tcp object W neq 1 object W neq 18\n",
+    );
+    assert_eq!(rt; taken(&rt, config, wide).pair_count(), 261_393);
+}
+
+#[test]
+fn a_changed_name_counts_each_line_that_uses_it_once(rt: HostRuntime) {
     // The line of the base has one pair; so has each of the three lines while the object is one host.
     let config = configured(
-        rt.alloc(),
+        &rt,
         b"object network A\n host 10.0.0.9\n\
         object-group network G\n network-object object A\n\
         access-list L permit ip object A object A\n\
         access-list M permit ip object-group G object A\n\
         access-list M permit ip any any\n",
-    )?;
+    );
     assert_eq!(rt; config.pair_count(), 4);
     // Two hosts that are no block: 4 pairs for the first line and 4 for the second.
-    let config = taken(
-        rt.alloc(),
-        config,
-        b"object network A\n range 10.0.0.1 10.0.0.2\n",
-    )?;
+    let config = taken(&rt, config, b"object network A\n range 10.0.0.1 10.0.0.2\n");
     assert_eq!(rt; config.pair_count(), 10);
     // A third member of the group: 6 pairs for the second line.
     let config = taken(
-        rt.alloc(),
+        &rt,
         config,
         b"object-group network G\n network-object host 10.0.0.4\n",
-    )?;
+    );
     assert_eq!(rt; config.pair_count(), 12);
-    Ok(())
 }

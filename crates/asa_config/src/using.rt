@@ -86,9 +86,8 @@ fn further_pairs(
 ) -> Result<u128, AllocError>
     ensures { IfOk result (λ n. n ≡ spec.further_pairs (meanings_in scope.now.objects.now scope.now.ifaces.now) name.now earlier.now.keys acl.now.lines) }
 {
-    let lines = acl.lines_using(name)?;
     let mut sum = 0;
-    for held in lines.as_slice() {
+    for held in acl.lines_using(name) {
         sum = plus(sum, line_rest(alloc, scope, earlier, held.line())?)?;
     }
     Ok(sum)

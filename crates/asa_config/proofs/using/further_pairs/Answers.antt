@@ -11,8 +11,8 @@ use Rattle.asa_config.proofs.using.further_pairs.Goals as goal
 pub returns : goal.returns
 returns c =
     let m : Meanings = meanings_in c.args.scope.now.objects.now c.args.scope.now.ifaces.now in
-    let all : length c.as_slice-held-items.result.now ≤ c.loop-held.held-index = omega (arith, c.loop-held-test.false) in
+    let all : length c.lines_using-held-items.result.now ≤ c.loop-held.held-index = omega (arith, c.loop-held-test.false) in
     c.loop-held.invariant
-    ∙ ap (sum_by (line_rest m c.args.earlier.now.keys)) (take_all _ _ all ∙ c.as_slice-held-items.ensures)
-    ∙ c.in_ok-lines.ensures (line_rest m c.args.earlier.now.keys)
+    ∙ ap (sum_by (line_rest m c.args.earlier.now.keys)) (take_all _ _ all)
+    ∙ c.lines_using-held-items.ensures (line_rest m c.args.earlier.now.keys)
     ∙ sum_filter (line_uses c.args.name.now) (line_rest m c.args.earlier.now.keys) c.args.acl.now.lines
