@@ -1,5 +1,5 @@
 -- What a block makes of a name that is in the table.
-use Rattle.std.proofs.Common.{◌≡◌, ℕ, ◌+◌, ◌<◌, ◌≤◌, Bool, true, false, ◌&&◌, nat_le, if◌then◌else◌, List, [], ◌∷◌, ◌++◌, length, Some, Result, Ok, Err, refl, sym, ap, subst, ◌∙◌, arith}
+use Rattle.std.proofs.Common.{◌≡◌, ℕ, ◌+◌, ◌<◌, ◌≤◌, Bool, true, false, ◌&&◌, nat_le, if◌then◌else◌, List, [], ◌∷◌, length, Option, None, Some, IsSomeAnd, Result, Ok, Err, refl, sym, ap, subst, ◌∙◌, arith}
 use Rattle.std.specs.List.{list_all}
 use Rattle.std.proofs.lemmas.Bool.{le-leb, leb-true}
 use Rattle.asa_text.specs.declared.grouping.Block.{Block}
@@ -8,13 +8,12 @@ use Rattle.asa_members.specs.declared.stating.Item.{Item}
 use Rattle.asa_members.specs.declared.topping.Top.{Top}
 use Rattle.asa_objects.specs.declared.faults.ObjectFault.{ObjectFault}
 use Rattle.asa_objects.specs.declared.faults.ObjectFault.TheVariants as fault
-use Rattle.asa_objects.specs.Tables.{Entry, Table, entry_of, grown_at, grown_in, items_in, items_of, with_entry, services_of_name}
+use Rattle.asa_objects.specs.Tables.{Entry, Table, entry_of, items_in, items_of, with_entry, services_of_name}
 use Rattle.asa_objects.specs.Ranks.{IsSound, Ranks, Uses}
-use Rattle.asa_objects.specs.Changing.{Replaces}
+use Rattle.asa_objects.specs.Changing.{Replaces, changed_at, changed_in}
 use Rattle.asa_objects.specs.Defining.{Defines, and_then, are_small, is_small, limited, lacks_value, completed, changed_by, top_text}
 use Rattle.asa_objects.specs.Drafting.{drafted_by, Drafteds}
 use Rattle.asa_objects.specs.Marks.{changed}
-use Rattle.asa_objects.proofs.DraftLaws.{standing-all}
 use Rattle.asa_objects.proofs.RankLaws.{kept-members, kept-services}
 
 every : (p : List ℕ → Bool) → ((q : List ℕ) → p q ≡ true) → (es : Table) → list_all (λ e. p e.0) es ≡ true
@@ -126,10 +125,11 @@ refused-same begun after s (fault.Cycle l) h = h.1
 refused-same begun after s (fault.NoSuchMember l) h = h.1
 refused-same begun after s (fault.NotBuilt l) h = h.1
 
--- a change that only adds members
-pub adds-taken : (t : Table) (name : List ℕ) (kind : BlockKind) (gone added : List Item) (e : Entry) → entry_of t name ≡ Some e → gone ≡ [] → e.block ≡ kind
-    → grown_at t name added ≡ with_entry t name (record { block = kind; items = changed (items_of t name) gone added })
-adds-taken t name kind gone added e found none same =
-    ap (λ o. grown_in t name added o) found
-    ∙ ap (λ b. with_entry t name (made_of b (e.items ++ added))) same
-    ∙ ap (λ xs. with_entry t name (made_of kind (xs ++ added))) (ap items_in (sym found) ∙ sym (standing-all (items_of t name) gone none))
+-- a change of a name's members leaves what its block defines
+pub taken-is : (t : Table) (name : List ℕ) (kind : BlockKind) (gone added : List Item) → IsSomeAnd (entry_of t name) (λ e. e.block ≡ kind)
+    → changed_at t name gone added ≡ with_entry t name (made_of kind (changed (items_of t name) gone added))
+taken-is t name kind gone added there = by (entry_of t name) there
+  where
+    by : (o : Option Entry) → IsSomeAnd o (λ e. e.block ≡ kind) → changed_in t name gone added o ≡ with_entry t name (made_of kind (changed (items_in o) gone added))
+    by None h = absurd h
+    by (Some e) h = ap (λ b. with_entry t name (made_of b (changed e.items gone added))) h

@@ -1,22 +1,34 @@
 -- Members of a draft, and those that are to go.
-use Rattle.std.proofs.Common.{◌≡◌, Bool, true, false, cond, not, ◌||◌, ◌&&◌, if◌then◌else◌, List, [], ◌∷◌, ◌++◌, length, Result, Ok, Err, OnOk, OnErr, refl, sym, ap, subst, ◌∙◌, arith, append_assoc}
+use Rattle.std.proofs.Common.{◌≡◌, Bool, true, false, cond, not, ◌||◌, ◌&&◌, if◌then◌else◌, List, [], ◌∷◌, ◌++◌, length, Some, None, Result, Ok, Err, OnOk, OnErr, refl, sym, ap, subst, ◌∙◌, arith, append_assoc}
 use Rattle.std.specs.Cmp.{IsEquivalence}
-use Rattle.std.specs.List.{filter, fold, list_all, AllByRecursion, IsDistinct}
+use Rattle.std.specs.List.{filter, fold, list_all, AllByRecursion, IsDistinct, find}
 use Rattle.std.proofs.lemmas.List.{append-nil}
 use Rattle.indexmap.specs.IndexSet.{insert_key}
 use Rattle.std.proofs.lemmas.Map.Made.{is_member-filter}
 use Rattle.asa_members.specs.declared.stating.Item.{Item}
 use Rattle.asa_members.specs.contracts.stating.ItemEq.TheImpl.Laws as item_laws
 use Rattle.asa_objects.specs.Defining.{same_item, has_item, with_item, without_item}
-use Rattle.asa_objects.specs.Marks.{AreNew, is_none, standing}
+use Rattle.asa_objects.specs.Marks.{AreDistinct, AreFormer, AreNew, is_none, standing}
 use Rattle.asa_objects.proofs.ReachLaws.{any-append}
 use Rattle.asa_objects.proofs.ClimbLaws.{all-push, or-left, or-right}
+
+or-none : (b : Bool) → (b || false) ≡ b
+or-none true = refl
+or-none false = refl
+
+or-none-left : (a b : Bool) → (a || b) ≡ false → a ≡ false
+or-none-left true b h = h
+or-none-left false b h = refl
+
+or-none-right : (a b : Bool) → (a || b) ≡ false → b ≡ false
+or-none-right true b h = absurd (cc)
+or-none-right false b h = h
 
 item-equiv : IsEquivalence same_item
 item-equiv = item_laws.laws-law
 
 -- equal members are alike in a list
-has-alike : (xs : List Item) (i j : Item) → same_item i j ≡ true → has_item xs i ≡ has_item xs j
+pub has-alike : (xs : List Item) (i j : Item) → same_item i j ≡ true → has_item xs i ≡ has_item xs j
 has-alike [] i j h = refl
 has-alike (x ∷ xs) i j h = ap (λ b. b || has_item xs i) (item-equiv.congr i j x h) ∙ ap (λ b. same_item j x || b) (has-alike xs i j h)
 
@@ -24,7 +36,7 @@ has-alike (x ∷ xs) i j h = ap (λ b. b || has_item xs i) (item-equiv.congr i j
 pub stands-is : (items gone : List Item) (i : Item) → has_item (standing items gone) i ≡ (has_item items i && not (has_item gone i))
 stands-is items gone i = is_member-filter item-equiv (λ k. not (has_item gone k)) i (λ x h. ap not (has-alike gone i x h)) items
 
-filter-filter : (p q : Item → Bool) (xs : List Item) → filter q (filter p xs) ≡ filter (λ x. p x && q x) xs
+pub filter-filter : (p q : Item → Bool) (xs : List Item) → filter q (filter p xs) ≡ filter (λ x. p x && q x) xs
 filter-filter p q [] = refl
 filter-filter p q (x ∷ xs) = by (p x) (filter-filter p q xs)
   where
@@ -37,7 +49,7 @@ pub filter-same : (p q : Item → Bool) → ((x : Item) → p x ≡ q x) → (xs
 filter-same p q h [] = refl
 filter-same p q h (x ∷ xs) = ap (λ b. cond b (x ∷ filter p xs) (filter p xs)) (h x) ∙ ap (λ r. cond (q x) (x ∷ r) r) (filter-same p q h xs)
 
-pub filter-append : (p : Item → Bool) (xs ys : List Item) → filter p (xs ++ ys) ≡ filter p xs ++ filter p ys
+filter-append : (p : Item → Bool) (xs ys : List Item) → filter p (xs ++ ys) ≡ filter p xs ++ filter p ys
 filter-append p [] ys = refl
 filter-append p (x ∷ xs) ys = by (p x) (filter-append p xs ys)
   where
@@ -53,7 +65,7 @@ standing-all items gone empty = ap (standing items) empty ∙ all items
     all (x ∷ xs) = ap (λ r. x ∷ r) (all xs)
 
 -- one more member is to go
-pub stands-not : (items gone more : List Item) (i : Item) → ((k : Item) → has_item more k ≡ cond (same_item i k) true (has_item gone k)) → standing items more ≡ without_item (standing items gone) i
+stands-not : (items gone more : List Item) (i : Item) → ((k : Item) → has_item more k ≡ cond (same_item i k) true (has_item gone k)) → standing items more ≡ without_item (standing items gone) i
 stands-not items gone more i put =
     filter-same _ _ (λ k. ap not (put k) ∙ by (same_item i k) (has_item gone k)) items ∙ sym (filter-filter (λ k. not (has_item gone k)) (λ k. not (same_item i k)) items)
   where
@@ -63,51 +75,6 @@ stands-not items gone more i put =
     by false true = refl
     by false false = refl
 
--- one more member that isn't to go
-pub stands-more : (items gone made : List Item) (i : Item) → has_item gone i ≡ false → made ≡ (if has_item items i then items else items ++ i ∷ []) → standing made gone ≡ with_item (standing items gone) i
-stands-more items gone made i stays put = ap (λ xs. standing xs gone) put ∙ by (has_item items i) refl
-  where
-    is : (b : Bool) → has_item items i ≡ b → has_item (standing items gone) i ≡ b
-    is b e = stands-is items gone i ∙ ap (λ x. x && not (has_item gone i)) e ∙ ap (λ x. b && not x) stays ∙ and-true b
-      where
-        and-true : (c : Bool) → (c && true) ≡ c
-        and-true true = refl
-        and-true false = refl
-
-    by : (b : Bool) → has_item items i ≡ b → standing (if b then items else items ++ i ∷ []) gone ≡ with_item (standing items gone) i
-    by true e = sym (ap (λ (x : Bool). if x then standing items gone else standing items gone ++ i ∷ []) (is true e))
-    by false e =
-        filter-append (λ k. not (has_item gone k)) items (i ∷ [])
-        ∙ ap (λ (x : Bool). standing items gone ++ cond (not x) (i ∷ []) []) stays
-        ∙ sym (ap (λ (x : Bool). if x then standing items gone else standing items gone ++ i ∷ []) (is false e))
-
-pub nil-of : (xs : List Item) → length xs ≡ 0 → xs ≡ []
-nil-of [] h = refl
-nil-of (x ∷ xs) h = absurd (omega arith)
-
--- where each member is to go, none stands
-pub all-gone : (items gone : List Item) → list_all (λ i. has_item gone i) items ≡ is_none (standing items gone)
-all-gone [] gone = refl
-all-gone (x ∷ xs) gone = by (has_item gone x) (all-gone xs gone)
-  where
-    by : (b : Bool) → list_all (λ i. has_item gone i) xs ≡ is_none (standing xs gone) → (b && list_all (λ i. has_item gone i) xs) ≡ is_none (cond (not b) (x ∷ standing xs gone) (standing xs gone))
-    by true h = h
-    by false h = refl
-
--- no member stands where all are to go
-pub standing-none : (items gone : List Item) → gone ≡ items → standing items gone ≡ []
-standing-none items gone same = each items (λ x h. ap (λ xs. has_item xs x) same ∙ h)
-  where
-    each : (xs : List Item) → ((x : Item) → has_item xs x ≡ true → has_item gone x ≡ true) → standing xs gone ≡ []
-    each [] f = refl
-    each (x ∷ xs) f =
-        ap (λ b. cond (not b) (x ∷ standing xs gone) (standing xs gone)) (f x (or-left _ _ (item-equiv.refl x)))
-        ∙ each xs (λ y h. f y (or-right _ _ h))
-
-pub none-append : (xs ys : List Item) → is_none (xs ++ ys) ≡ (is_none xs && is_none ys)
-none-append [] ys = refl
-none-append (x ∷ xs) ys = refl
-
 -- a further member isn't there
 pub new-has : (items added : List Item) (i : Item) → AreNew items added → has_item added i ≡ true → has_item items i ≡ false
 new-has items [] i all h = absurd (cc)
@@ -116,14 +83,6 @@ new-has items (x ∷ xs) i all h = by (same_item i x) refl h (λ k. new-has item
     by : (b : Bool) → same_item i x ≡ b → (b || has_item xs i) ≡ true → (has_item xs i ≡ true → has_item items i ≡ false) → has_item items i ≡ false
     by true e h more = has-alike items i x e ∙ all.0
     by false e h more = more h
-
--- one more further member
-pub new-more : (items added : List Item) (i : Item) → AreNew items added → has_item items i ≡ false → AreNew items (with_item added i)
-new-more items added i all new = by (has_item added i)
-  where
-    by : (b : Bool) → AreNew items (if b then added else added ++ i ∷ [])
-    by true = all
-    by false = all-push (λ j. has_item items j ≡ false) added i all new
 
 -- one further member less
 pub new-fewer : (items added : List Item) (i : Item) → AreNew items added → AreNew items (without_item added i)
@@ -171,50 +130,124 @@ former-goes items gone more added i put lacks =
     ∙ ap (λ xs. without_item (standing items gone) i ++ xs) (sym (without-absent added i lacks))
     ∙ sym (filter-append (λ j. not (same_item i j)) (standing items gone) added)
 
--- a member is there already
-pub there-already : (stay added : List Item) (i : Item) → has_item stay i ≡ true → stay ++ added ≡ with_item (stay ++ added) i
-there-already stay added i has =
-    sym (ap (λ (b : Bool). if b then stay ++ added else (stay ++ added) ++ i ∷ []) (any-append _ stay added ∙ or-left _ _ has))
-
--- a member isn't among those that stay
-pub comes-after : (stay added made : List Item) (i : Item) → has_item stay i ≡ false → made ≡ with_item added i → stay ++ made ≡ with_item (stay ++ added) i
-comes-after stay added made i lacks is = ap (λ xs. stay ++ xs) is ∙ by (has_item added i) refl
+-- one more member that isn't twice
+distinct-more : (xs : List Item) (i : Item) → AreDistinct xs → AreDistinct (with_item xs i)
+distinct-more xs i apart = by (has_item xs i) refl
   where
-    is-there : (b : Bool) → has_item added i ≡ b → has_item (stay ++ added) i ≡ b
-    is-there b e = any-append _ stay added ∙ ap (λ x. x || has_item added i) lacks ∙ e
-
-    by : (b : Bool) → has_item added i ≡ b → stay ++ (if b then added else added ++ i ∷ []) ≡ with_item (stay ++ added) i
-    by true e = sym (ap (λ (x : Bool). if x then stay ++ added else (stay ++ added) ++ i ∷ []) (is-there true e))
-    by false e = sym (ap (λ (x : Bool). if x then stay ++ added else (stay ++ added) ++ i ∷ []) (is-there false e) ∙ append_assoc stay added (i ∷ []))
-
--- members that aren't there are added one after another
-pub insert-new : (xs ys : List Item) → AreNew xs ys → IsDistinct same_item ys → fold (insert_key same_item) xs ys ≡ xs ++ ys
-unfolding IsDistinct
-insert-new xs [] all apart = sym (append-nil xs)
-insert-new xs (y ∷ ys) all apart =
-    ap (λ (b : Bool). fold (insert_key same_item) (if b then xs else xs ++ y ∷ []) ys) all.0
-    ∙ insert-new (xs ++ y ∷ []) ys (more ys all.1 apart.0) apart.1 ∙ append_assoc xs (y ∷ []) ys
-  where
-    more : (zs : List Item) → AreNew xs zs → AllByRecursion (λ z. same_item y z ≡ false) zs → AreNew (xs ++ y ∷ []) zs
-    more [] all apart = tt
-    more (z ∷ zs) all apart = (
-      any-append _ xs (y ∷ []) ∙ ap (λ b. b || (same_item z y || false)) all.0 ∙ ap (λ b. b || false) (item-equiv.symm z y ∙ apart.0),
-      more zs all.1 apart.1,
+    push : (ys : List Item) → AreDistinct ys → has_item ys i ≡ false → AreDistinct (ys ++ i ∷ [])
+    push [] d h = (refl, tt)
+    push (y ∷ ys) d h = (
+      any-append _ ys (i ∷ []) ∙ ap (λ b. b || (same_item y i || false)) d.0 ∙ ap (λ b. b || false) (item-equiv.symm y i ∙ or-none-left _ _ h),
+      push ys d.1 (or-none-right _ _ h),
     )
 
+    by : (b : Bool) → has_item xs i ≡ b → AreDistinct (if b then xs else xs ++ i ∷ [])
+    by true e = apart
+    by false e = push xs apart e
+
+-- what is found is equal
+pub found-is : (xs : List Item) (i j : Item) → find (same_item i) xs ≡ Some j → same_item i j ≡ true
+found-is [] i j h = absurd (cc)
+found-is (x ∷ xs) i j h = by (same_item i x) refl h (λ k. found-is xs i j k)
+  where
+    by : (b : Bool) → same_item i x ≡ b → cond b (Some x) (find (same_item i) xs) ≡ Some j → (find (same_item i) xs ≡ Some j → same_item i j ≡ true) → same_item i j ≡ true
+    by true e h more = let this : x ≡ j = cc in ap (same_item i) (sym this) ∙ e
+    by false e h more = more h
+
+-- equal members find the same
+find-alike : (xs : List Item) (i j : Item) → same_item i j ≡ true → find (same_item i) xs ≡ find (same_item j) xs
+find-alike [] i j h = refl
+find-alike (x ∷ xs) i j h =
+    ap (λ b. cond b (Some x) (find (same_item i) xs)) (item-equiv.congr i j x h) ∙ ap (λ o. cond (same_item j x) (Some x) o) (find-alike xs i j h)
+
+pub finds-found : (xs : List Item) (i j : Item) → find (same_item i) xs ≡ Some j → find (same_item j) xs ≡ Some j
+finds-found xs i j h = sym (find-alike xs i j (found-is xs i j h)) ∙ h
+
+-- what isn't found isn't there
+pub found-none : (xs : List Item) (i : Item) → find (same_item i) xs ≡ None → has_item xs i ≡ false
+found-none [] i h = refl
+found-none (x ∷ xs) i h = by (same_item i x) h (λ k. found-none xs i k)
+  where
+    by : (b : Bool) → cond b (Some x) (find (same_item i) xs) ≡ None → (find (same_item i) xs ≡ None → has_item xs i ≡ false) → (b || has_item xs i) ≡ false
+    by true h more = absurd (cc)
+    by false h more = more h
+
+-- each of distinct members finds itself
+finds-itself : (xs : List Item) → AreDistinct xs → AllByRecursion (λ i. find (same_item i) xs ≡ Some i) xs
+finds-itself [] apart = tt
+finds-itself (x ∷ xs) apart = (
+  ap (λ b. cond b (Some x) (find (same_item x) xs)) (item-equiv.refl x),
+  behind xs (finds-itself xs apart.1) apart.0,
+)
+  where
+    behind : (ys : List Item) → AllByRecursion (λ i. find (same_item i) xs ≡ Some i) ys → has_item ys x ≡ false → AllByRecursion (λ i. find (same_item i) (x ∷ xs) ≡ Some i) ys
+    behind [] found out = tt
+    behind (y ∷ ys) found out = (
+      ap (λ b. cond b (Some x) (find (same_item y) xs)) (item-equiv.symm y x ∙ or-none-left _ _ out) ∙ found.0,
+      behind ys found.1 (or-none-right _ _ out),
+    )
+
+-- one more of the former members is to go
+pub former-more : (items gone more : List Item) (i : Item) → AreFormer items gone → find (same_item i) items ≡ Some i → more ≡ with_item gone i → AreFormer items more
+former-more items gone more i all found is = subst (AreFormer items) (sym is) (by (has_item gone i), distinct-more gone i all.1)
+  where
+    by : (b : Bool) → AllByRecursion (λ j. find (same_item j) items ≡ Some j) (if b then gone else gone ++ i ∷ [])
+    by true = all.0
+    by false = all-push (λ j. find (same_item j) items ≡ Some j) gone i all.0 found
+
+-- members without one are those without an equal one
+pub without-alike : (xs : List Item) (i j : Item) → same_item i j ≡ true → without_item xs i ≡ without_item xs j
+without-alike xs i j h = filter-same _ _ (λ k. ap not (item-equiv.congr i j k h)) xs
+
+-- a member that is there, but not among those that are added, is a former one
+pub there-former : (items gone added : List Item) (i : Item) → has_item (standing items gone ++ added) i ≡ true → has_item added i ≡ false → has_item items i ≡ true
+there-former items gone added i has lacks = by (has_item items i) stays
+  where
+    stays : (has_item items i && not (has_item gone i)) ≡ true
+    stays = sym (stands-is items gone i) ∙ sym (or-none (has_item (standing items gone) i)) ∙ ap (λ b. has_item (standing items gone) i || b) (sym lacks) ∙ sym (any-append _ (standing items gone) added) ∙ has
+
+    by : (a : Bool) → (a && not (has_item gone i)) ≡ true → a ≡ true
+    by true h = refl
+    by false h = h
+
+-- a former member goes, as it stands there
+pub stored-goes : (former gone added more : List Item) (i j : Item) → AreNew (standing former gone) added → AreFormer former gone → find (same_item i) former ≡ Some j → has_item added i ≡ false
+    → ((k : Item) → has_item more k ≡ cond (same_item j k) true (has_item gone k)) → more ≡ with_item gone j
+    → (AreNew (standing former more) added × AreFormer former more) × (standing former more ++ added ≡ without_item (standing former gone ++ added) i)
+stored-goes former gone added more i j new all found lacks put is =
+    let same : same_item i j ≡ true = found-is former i j found in (
+      (new-gone former gone more added j put new, former-more former gone more j all (finds-found former i j found) is),
+      former-goes former gone more added j put (sym (has-alike added i j same) ∙ lacks) ∙ sym (without-alike (standing former gone ++ added) i j same),
+    )
+
+-- those that are to go are all former members but for those that are left
+pub record AreTaken (items rest gone : List Item) : Type 0 where
+  pub left : standing items gone ≡ standing rest gone
+  pub found : AllByRecursion (λ i. find (same_item i) items ≡ Some i) rest
+  pub former : AreFormer items gone
+
+pub start-taking : (items gone : List Item) → AreDistinct items → gone ≡ [] → AreTaken items items gone
+start-taking items gone apart none = record { left = refl; found = finds-itself items apart; former = subst (AreFormer items) (sym none) (tt, tt) }
+
+pub step-taking : (items was rest gone more : List Item) (x i : Item) → AreTaken items was gone → was ≡ x ∷ rest → i ≡ x → ((k : Item) → has_item more k ≡ cond (same_item i k) true (has_item gone k))
+    → more ≡ with_item gone i → AreTaken items rest more
+step-taking items was rest gone more x i before first same put is = record {
+  left =
+      stands-not items gone more i put ∙ ap (λ xs. without_item xs i) taken.left ∙ sym (stands-not (x ∷ rest) gone more i put)
+      ∙ ap (λ b. cond (not b) (x ∷ standing rest more) (standing rest more)) goes;
+  found = taken.found.1;
+  former = former-more items gone more i taken.former (ap (λ k. find (same_item k) items) same ∙ taken.found.0 ∙ ap Some (sym same)) is;
+}
+  where
+    taken : AreTaken items (x ∷ rest) gone
+    taken = subst (λ xs. AreTaken items xs gone) first before
+
+    goes : has_item more x ≡ true
+    goes = put x ∙ ap (λ b. cond b true (has_item gone x)) (ap (λ k. same_item k x) same ∙ item-equiv.refl x)
+
 -- one member alone
-pub new-alone : (items gone added : List Item) (i : Item) → gone ≡ items → added ≡ i ∷ [] → AreNew (standing items gone) added
-new-alone items gone added i same is = subst (AreNew (standing items gone)) (sym is) (ap (λ xs. has_item xs i) (standing-none items gone same), tt)
+pub new-alone : (items gone added : List Item) (i : Item) → standing items gone ≡ [] → added ≡ i ∷ [] → AreNew (standing items gone) added
+new-alone items gone added i none is = subst (AreNew (standing items gone)) (sym is) (ap (λ xs. has_item xs i) none, tt)
 
-pub stands-alone : (items gone added : List Item) (i : Item) → gone ≡ items → added ≡ i ∷ [] → standing items gone ++ added ≡ i ∷ []
-stands-alone items gone added i same is = ap (λ xs. xs ++ added) (standing-none items gone same) ∙ is
-
--- one of the further members goes, where there is memory
-module _ {E : Type 0} (stay added made : List Item) (i : Item) (new : AreNew stay added) where
-  pub new-either : (r : Result (Unit {0}) E) → OnOk r (made ≡ without_item added i) → OnErr r (made ≡ added) → AreNew stay made
-  new-either (Ok u) ok err = subst (AreNew stay) (sym ok) (new-fewer stay added i new)
-  new-either (Err e) ok err = subst (AreNew stay) (sym err) new
-
-  pub goes-either : (r : Result (Unit {0}) E) → has_item added i ≡ true → OnOk r (made ≡ without_item added i) → OnOk r (stay ++ made ≡ without_item (stay ++ added) i)
-  goes-either (Ok u) has ok = further-goes stay added made i new has ok
-  goes-either (Err e) has ok = tt
+pub stands-alone : (items gone added : List Item) (i : Item) → standing items gone ≡ [] → added ≡ i ∷ [] → standing items gone ++ added ≡ i ∷ []
+stands-alone items gone added i none is = ap (λ xs. xs ++ added) none ∙ is

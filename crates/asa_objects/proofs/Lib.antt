@@ -20,4 +20,9 @@ pub mod StackLaws
 pub mod DraftLaws
 pub mod KeptLaws
 pub mod LoneLaws
-pub mod GrowLaws
+pub mod ToldLaws
+pub mod StandingLaws
+pub mod EffectLaws
+pub mod MoveLaws
+pub mod OrderLaws
+pub mod PassLaws

@@ -180,26 +180,23 @@ open-sound t after ranks ranks2 uses stamp name made sound absent empty entry ra
         by false e p = ap (λ o. list_any (refers_to c) (items_in o)) (sym p)
 
 -- a name that goes
-pub close-sound : (t after : Table) (ranks ranks2 : Ranks) (uses mid uses2 : Uses) (stamp : ℕ) (name : List ℕ) (former : Entry) (none : List (List ℕ)) → IsSound t ranks uses stamp → entry_of t name ≡ Some former
+pub close-sound : (t after : Table) (ranks ranks2 : Ranks) (uses mid uses2 : Uses) (stamp : ℕ) (name : List ℕ) (former : Entry) → IsSound t ranks uses stamp → entry_of t name ≡ Some former
     → ((q : List ℕ) → list_any (refers_to name) (items_of t q) ≡ false)
     → ((q : List ℕ) → entry_of after q ≡ cond (same_name name q) None (entry_of t q))
     → ((q : List ℕ) → rank_of ranks2 q ≡ cond (same_name name q) None (rank_of ranks q))
-    → none ≡ [] → AreUnused uses mid name (refs_in former.items) none
+    → AreUnused uses mid name (refs_in former.items)
     → ((c u : List ℕ) → has_name (users_of uses2 c) u ≡ cond (same_name name c) false (has_name (users_of mid c) u))
     → IsSound after ranks2 uses2 stamp
-close-sound t after ranks ranks2 uses mid uses2 stamp name former none sound is unused entry ranked nil dropped gone =
+close-sound t after ranks ranks2 uses mid uses2 stamp name former sound is unused entry ranked dropped gone =
     other-sound t after ranks ranks2 uses stamp name None None sound entry ranked refl (λ k. refl) refl (λ q _. unused q) stamp (omega arith) (λ r e. absurd (cc)) uses2 used
   where
-    and-not : (b : Bool) → (b && not (b && true)) ≡ false
+    and-not : (b : Bool) → (b && not b) ≡ false
     and-not true = refl
     and-not false = refl
 
     and-true : (b : Bool) → (b && true) ≡ b
     and-true true = refl
     and-true false = refl
-
-    mid-is : (c u : List ℕ) → has_name (users_of mid c) u ≡ (has_name (users_of uses c) u && not (same_name name u && (has_name (refs_in former.items) c && true)))
-    mid-is c u = dropped c u ∙ ap (λ ns. has_name (users_of uses c) u && not (same_name name u && (has_name (refs_in former.items) c && not (has_name ns c)))) nil
 
     used : (c u : List ℕ) → has_name (users_of uses2 c) u ≡ list_any (refers_to c) (items_of after u)
     used c u = gone c u ∙ by (same_name name c) (same_name name u) refl refl (entry u)
@@ -210,12 +207,12 @@ close-sound t after ranks ranks2 uses mid uses2 stamp name former none sound is 
         by true false e f p = sym (ap (λ o. list_any (refers_to c) (items_in o)) p ∙ ap (λ n. list_any (refers_to n) (items_of t u)) (sym (same-is name c e)) ∙ unused u)
         by false true e f p =
             let old : has_name (users_of uses c) u ≡ has_name (refs_in former.items) c = ap (has_name (users_of uses c)) (sym (same-is name u f)) ∙ refers-former t ranks uses stamp name former sound is c in
-            mid-is c u
-            ∙ ap (λ (x : Bool). has_name (users_of uses c) u && not (x && (has_name (refs_in former.items) c && true))) f
-            ∙ ap (λ (x : Bool). x && not (has_name (refs_in former.items) c && true)) old ∙ and-not (has_name (refs_in former.items) c)
+            dropped c u
+            ∙ ap (λ (x : Bool). has_name (users_of uses c) u && not (x && has_name (refs_in former.items) c)) f
+            ∙ ap (λ (x : Bool). x && not (has_name (refs_in former.items) c)) old ∙ and-not (has_name (refs_in former.items) c)
             ∙ sym (ap (λ o. list_any (refers_to c) (items_in o)) p)
         by false false e f p =
-            mid-is c u ∙ ap (λ (x : Bool). has_name (users_of uses c) u && not (x && (has_name (refs_in former.items) c && true))) f
+            dropped c u ∙ ap (λ (x : Bool). has_name (users_of uses c) u && not (x && has_name (refs_in former.items) c)) f
             ∙ and-true (has_name (users_of uses c) u) ∙ sound.used c u ∙ ap (λ o. list_any (refers_to c) (items_in o)) (sym p)
 
 -- no name refers to one that has no user

@@ -13,7 +13,9 @@ use Rattle.std.specs.declared.cmp.Ordering.TheVariants as cmp
 use Rattle.std.specs.Cmp.Lexicographic.{slice_cmp}
 use Rattle.std.proofs.lemmas.Cmp.{nat_list_cmp_total}
 use Rattle.asa_objects.specs.declared.ranking.Rank.{Rank}
-use Rattle.asa_objects.specs.Tables.{Entry, Table, entry_of, grown, grown_at, grown_in, same_name, with_entry}
+use Rattle.asa_objects.specs.Tables.{Entry, Table, entry_of, same_name, with_entry}
+use Rattle.asa_objects.specs.Marks.{changed_entry}
+use Rattle.asa_objects.specs.Changing.{changed_at, changed_in}
 use Rattle.asa_objects.specs.Ranks.{Ranks, rank_of, has_name}
 use Rattle.asa_objects.specs.Totalling.{newer}
 use Rattle.asa_objects.proofs.LabelLaws.{same-is, same-self}
@@ -132,11 +134,11 @@ set-same {V} name w (e ∷ es) found = by (is_at (slice_cmp nat_cmp name) e.0) f
     by true f more = let same : w ≡ e.1 = cc in ap (λ x. (e.0, x) ∷ es) same
     by false f more = ap (λ r. e ∷ r) (more f)
 
--- a value that has grown in its place
-pub grow-put : (t n : Table) (name : List ℕ) (w e : Entry) (added : List Item) → IsStrictlySortedBy (slice_cmp nat_cmp) (keys_of t) → entry_of t name ≡ Some e
-    → n ≡ set_value (is_at (slice_cmp nat_cmp name)) t w → w ≡ grown e added → n ≡ grown_at t name added
-grow-put t n name w e added sorted found put is =
-    put ∙ set-insert name w e t sorted found ∙ ap (with_entry t name) is ∙ sym (ap (λ o. grown_in t name added o) found)
+-- a value that is changed in its place
+pub change-put : (t n : Table) (name : List ℕ) (w e : Entry) (gone added : List Item) → IsStrictlySortedBy (slice_cmp nat_cmp) (keys_of t) → entry_of t name ≡ Some e
+    → n ≡ set_value (is_at (slice_cmp nat_cmp name)) t w → w ≡ changed_entry e gone added → n ≡ changed_at t name gone added
+change-put t n name w e gone added sorted found put is =
+    put ∙ set-insert name w e t sorted found ∙ ap (with_entry t name) is ∙ sym (ap (λ o. changed_in t name gone added o) found)
 
-pub grow-kept : (t n : Table) (name : List ℕ) (w e : Entry) → entry_of t name ≡ Some e → n ≡ set_value (is_at (slice_cmp nat_cmp name)) t w → w ≡ e → n ≡ t
-grow-kept t n name w e found put is = put ∙ ap (set_value (is_at (slice_cmp nat_cmp name)) t) is ∙ set-same name e t found
+pub change-kept : (t n : Table) (name : List ℕ) (w e : Entry) → entry_of t name ≡ Some e → n ≡ set_value (is_at (slice_cmp nat_cmp name)) t w → w ≡ e → n ≡ t
+change-kept t n name w e found put is = put ∙ ap (set_value (is_at (slice_cmp nat_cmp name)) t) is ∙ set-same name e t found

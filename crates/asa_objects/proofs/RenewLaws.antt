@@ -187,6 +187,21 @@ small-start new empty q h = let no : is_some (rank_of new q) ≡ false = ap (λ 
 cut-at : (xs : List (List ℕ)) (i : ℕ) (d : List ℕ) → i < length xs → xs ≡ take i xs ++ get_or xs i d ∷ drop (suc i) xs
 cut-at xs i d lt = sym (take-append-drop i xs) ∙ ap (λ r. take i xs ++ r) (drop-cons xs i d lt)
 
+-- a name isn't new before its turn
+pub not-before : (t : Table) (ranks : Ranks) (stamp : ℕ) (names : List (List ℕ)) (i : ℕ) (d n : List ℕ) (new : Ranks) (label : ℕ) → i < length names → n ≡ get_or names i d
+    → IsLaid t ranks names → IsRenewed t ranks stamp (take i names) new label → rank_of new n ≡ None
+not-before t ranks stamp names i d n new label lt is laid renewed = by (rank_of new n) (renewed.covers n)
+  where
+    rises : Rises (label_of ranks) (take i names ++ n ∷ drop (suc i) names)
+    rises = subst (Rises (label_of ranks)) (cut-at names i d lt ∙ ap (λ m. take i names ++ m ∷ drop (suc i) names) (sym is)) laid.rising
+
+    by : (o : Option Rank) → is_some o ≡ has_name (take i names) n → o ≡ None
+    by None h = refl
+    by (Some r) h =
+        let less : label_of ranks n < label_of ranks n =
+        all-has (λ p. label_of ranks p < label_of ranks n) (take i names) n (rises-before (label_of ranks) (take i names) n (drop (suc i) names) rises) (sym h) in
+        absurd (omega arith)
+
 -- the same, as a loop over the names goes
 pub renew-at : (t : Table) (ranks : Ranks) (stamp : ℕ) (names : List (List ℕ)) (i : ℕ) (d n : List ℕ) (new made : Ranks) (label next : ℕ) (totals : Amounts)
     → i < length names → n ≡ get_or names i d → IsLaid t ranks names → IsRenewed t ranks stamp (take i names) new label × AreSmall new

@@ -50,49 +50,6 @@ sound-users t ranks uses uses2 stamp sound same = record {
   used = λ c u. same c u ∙ sound.used c u;
 }
 
-bool-used : (f m : Bool) → ((f || m) && not (f && not m)) ≡ m
-bool-used true true = refl
-bool-used true false = refl
-bool-used false true = refl
-bool-used false false = refl
-
-bool-other : (o : Bool) → ((o || false) && true) ≡ o
-bool-other true = refl
-bool-other false = refl
-
--- after the change each name is used by those that refer to it
-used-after : (t after : Table) (ranks : Ranks) (uses mid uses2 : Uses) (stamp : ℕ) (name : List ℕ) (former made : Entry) (kept : List (List ℕ)) → IsSound t ranks uses stamp
-    → entry_of t name ≡ Some former → ((q : List ℕ) → entry_of after q ≡ cond (same_name name q) (Some made) (entry_of t q))
-    → AreUsed uses mid name (refs_in made.items) → ((q : List ℕ) → has_name kept q ≡ has_name (refs_in made.items) q) → AreUnused mid uses2 name (refs_in former.items) kept
-    → (c u : List ℕ) → has_name (users_of uses2 c) u ≡ list_any (refers_to c) (items_of after u)
-used-after t after ranks uses mid uses2 stamp name former made kept sound is entry used set unused c u =
-    unused c u ∙ ap (λ b. b && not (same_name name u && (has_name (refs_in former.items) c && not (has_name kept c)))) (used c u) ∙ by (same_name name u) refl (entry u)
-  where
-    by : (b : Bool) → same_name name u ≡ b → entry_of after u ≡ cond b (Some made) (entry_of t u)
-        → ((has_name (users_of uses c) u || (same_name name u && has_name (refs_in made.items) c)) && not (same_name name u && (has_name (refs_in former.items) c && not (has_name kept c))))
-        ≡ list_any (refers_to c) (items_of after u)
-    by true e p =
-        let f : has_name (users_of uses c) u ≡ has_name (refs_in former.items) c = ap (has_name (users_of uses c)) (sym (same-is name u e)) ∙ refers-former t ranks uses stamp name former sound is c in
-        ap (λ (b : Bool). (has_name (users_of uses c) u || (b && has_name (refs_in made.items) c)) && not (b && (has_name (refs_in former.items) c && not (has_name kept c)))) e
-        ∙ ap (λ x. (x || has_name (refs_in made.items) c) && not (has_name (refs_in former.items) c && not (has_name kept c))) f
-        ∙ ap (λ x. (has_name (refs_in former.items) c || has_name (refs_in made.items) c) && not (has_name (refs_in former.items) c && not x)) (set c)
-        ∙ bool-used (has_name (refs_in former.items) c) (has_name (refs_in made.items) c)
-        ∙ sym (refs-any c made.items) ∙ ap (λ o. list_any (refers_to c) (items_in o)) (sym p)
-    by false e p =
-        ap (λ (b : Bool). (has_name (users_of uses c) u || (b && has_name (refs_in made.items) c)) && not (b && (has_name (refs_in former.items) c && not (has_name kept c)))) e
-        ∙ bool-other (has_name (users_of uses c) u) ∙ sound.used c u ∙ ap (λ o. list_any (refers_to c) (items_in o)) (sym p)
-
--- what is kept after the change
-pub replace-sound : (t after : Table) (ranks ranks2 : Ranks) (uses mid uses2 : Uses) (stamp : ℕ) (name : List ℕ) (former made : Entry) (names kept : List (List ℕ)) (x : Renewed)
-    → IsChange t after ranks uses stamp name made names → entry_of t name ≡ Some former
-    → (IsRenewed after ranks stamp names x.ranks.entries x.label × AreSmall x.ranks.entries × AreUsed uses mid name (refs_in made.items))
-    → ((q : List ℕ) → has_name kept q ≡ has_name (refs_in made.items) q)
-    → ((q : List ℕ) → rank_of ranks2 q ≡ newer (rank_of x.ranks.entries q) (rank_of ranks q)) → AreUnused mid uses2 name (refs_in former.items) kept
-    → IsSound after ranks2 uses2 x.label
-replace-sound t after ranks ranks2 uses mid uses2 stamp name former made names kept x change is prepared set now unused =
-    change-sound t after ranks uses stamp name made names change x.ranks.entries ranks2 x.label prepared.0 prepared.1 now uses2
-    (used-after t after ranks uses mid uses2 stamp name former made kept change.sound is change.entry prepared.2 set unused)
-
 -- a copy of the users of names has the same users
 pub copied-users : (old new : Uses) → AllZip (λ (p q : List ℕ × BTreeSet (List ℕ)). (q.0 ≡ p.0) × AllZip (λ (a b : List ℕ). b ≡ a) p.1.keys q.1.keys) old new → SameUsers old new
 copied-users [] [] zipped q u = refl

@@ -6,9 +6,9 @@ use Rattle.asa_members.specs.declared.stating.Item.TheVariants as item
 use Rattle.asa_members.specs.Items.{item_services}
 use Rattle.asa_objects.specs.declared.expanding.Rest.{Rest}
 use Rattle.asa_objects.specs.Spreads.{of_name}
-use Rattle.asa_objects.specs.Tables.{Table, entry_of, items_of, named, own_members, members_of, services_of_name, group_at}
+use Rattle.asa_objects.specs.Tables.{Entry, Table, entry_of, items_in, items_of, named, own_members, members_of, services_of_name, group_at, group_of}
 use Rattle.asa_objects.specs.Ranks.{IsSound, Ranks, Uses, members, services, amount_of, label_of}
-use Rattle.asa_objects.specs.Stacks.{given_by, unwound, marks, visits, cost_of, cost}
+use Rattle.asa_objects.specs.Stacks.{IsWaiting, given_by, unwound, marks, visits, cost_of, cost}
 use Rattle.asa_objects.proofs.SpreadLaws.{spread-items, total-append}
 use Rattle.asa_objects.proofs.RankLaws.{labelled, number, number-falls, number-few, kept-members, kept-services}
 
@@ -21,13 +21,13 @@ join [] ys zs = refl
 join (x ∷ xs) ys zs = ap (λ r. x ∷ r) (join xs ys zs)
 
 -- the last list comes first
-pub unwound-push : {X : Type 0} (own : GroupKind → Item → List X) (names : List ℕ → List X) (rs : List Rest) (r : Rest) → unwound own names (rs ++ r ∷ []) ≡ given_by (own r.group) names r.items.now ++ unwound own names rs
-unwound-push own names [] r = sym (append-nil (given_by (own r.group) names r.items.now))
-unwound-push own names (s ∷ rs) r = ap (λ u. u ++ given_by (own s.group) names s.items.now) (unwound-push own names rs r)
-    ∙ join (given_by (own r.group) names r.items.now) (unwound own names rs) (given_by (own s.group) names s.items.now)
+pub unwound-push : {X : Type 0} (own : GroupKind → Item → List X) (names : List ℕ → List X) (rs : List Rest) (r : Rest) → unwound own names (rs ++ r ∷ []) ≡ given_by (own r.group) names r.items ++ unwound own names rs
+unwound-push own names [] r = sym (append-nil (given_by (own r.group) names r.items))
+unwound-push own names (s ∷ rs) r = ap (λ u. u ++ given_by (own s.group) names s.items) (unwound-push own names rs r)
+    ∙ join (given_by (own r.group) names r.items) (unwound own names rs) (given_by (own s.group) names s.items)
 
-pub cost-push : (t : Table) (rs : List Rest) (r : Rest) → cost t (rs ++ r ∷ []) ≡ cost t rs + cost_of t r.items.now
-cost-push t rs r = let e = total-append (λ (x : Rest). cost_of t x.items.now) rs (r ∷ []) in omega arith
+pub cost-push : (t : Table) (rs : List Rest) (r : Rest) → cost t (rs ++ r ∷ []) ≡ cost t rs + cost_of t r.items
+cost-push t rs r = let e = total-append (λ (x : Rest). cost_of t x.items) rs (r ∷ []) in omega arith
 
 module _ (t : Table) (ranks : Ranks) (uses : Uses) (stamp : ℕ) (sound : IsSound t ranks uses stamp) where
   -- what a name gives is what its members give
@@ -54,15 +54,21 @@ module _ (t : Table) (ranks : Ranks) (uses : Uses) (stamp : ℕ) (sound : IsSoun
   no-services q h = no-length (services_of_name t q) (sym (kept-services t ranks uses stamp sound q) ∙ h)
 
   -- the members of a name are waited for
-  pub wait-listed : {X : Type 0} (own : GroupKind → Item → List X) (names : List ℕ → List X) (rs : List Rest) (r : Rest) (q : List ℕ) → names q ≡ given_by (own r.group) names (items_of t q) → r.items.now ≡ items_of t q
-      → unwound own names (rs ++ r ∷ []) ≡ names q ++ unwound own names rs
-  wait-listed own names rs r q given is = unwound-push own names rs r ∙ ap (λ xs. given_by (own r.group) names xs ++ unwound own names rs) is ∙ ap (λ g. g ++ unwound own names rs) (sym given)
+  pub wait-listed : {X : Type 0} (own : GroupKind → Item → List X) (names : List ℕ → List X) (old new : List Rest) (q : List ℕ) (entry : Entry) → names q ≡ given_by (own (group_at (entry_of t q))) names (items_of t q)
+      → Some entry ≡ entry_of t q → IsWaiting old new entry → unwound own names new ≡ names q ++ unwound own names old
+  wait-listed own names old new q entry given found w =
+      ap (unwound own names) w.1 ∙ unwound-push own names old w.0
+      ∙ ap (λ g. given_by (own g) names w.0.items ++ unwound own names old) w.3
+      ∙ ap (λ xs. given_by (own (group_of entry.block)) names xs ++ unwound own names old) w.2
+      ∙ ap (λ o. given_by (own (group_at o)) names (items_in o) ++ unwound own names old) found
+      ∙ ap (λ g. g ++ unwound own names old) (sym given)
 
-  pub wait-cost : (rs : List Rest) (r : Rest) (q : List ℕ) → r.items.now ≡ items_of t q → cost t (rs ++ r ∷ []) ≤ suc (length (visits t q)) + cost t rs
-  wait-cost rs r q is =
-      let e = cost-push t rs r in
-      let f : cost_of t r.items.now ≡ suc (length (visits t q)) = ap (cost_of t) is ∙ ap (λ (xs : List ℕ). suc (length xs)) (sym (visits-given q)) in
-      omega arith
+  pub wait-cost : (old new : List Rest) (q : List ℕ) (entry : Entry) → Some entry ≡ entry_of t q → IsWaiting old new entry → cost t new ≤ suc (length (visits t q)) + cost t old
+  wait-cost old new q entry found w =
+      let put : cost t new ≡ cost t old + cost_of t w.0.items = ap (cost t) w.1 ∙ cost-push t old w.0 in
+      let is : cost_of t w.0.items ≡ suc (length (visits t q)) =
+      ap (cost_of t) w.2 ∙ ap (λ o. cost_of t (items_in o)) found ∙ ap (λ (xs : List ℕ). suc (length xs)) (sym (visits-given q)) in
+      omega (arith, put, is)
 
 -- a member that refers to a name states nothing by itself
 pub own-ref : (x : Item) (c : List ℕ) → named x ≡ Some c → own_members x ≡ []

@@ -8,6 +8,7 @@ use Rattle.std.specs.Cmp.Lexicographic.{slice_cmp}
 use Rattle.std.proofs.lemmas.Bool.{false≢true}
 use Rattle.std.proofs.Math.Seq.{take-suc}
 use Rattle.std.proofs.lemmas.List.{take-append-drop}
+use Rattle.std.specs.Option.{option_to_list}
 use Rattle.asa_objects.specs.Tables.{same_name}
 use Rattle.asa_objects.specs.Ranks.{Uses, has_name, users_in, users_of}
 use Rattle.asa_objects.specs.Using.{AreUsed, IsPartUsed, AreUnused}
@@ -71,21 +72,21 @@ pub users-dropped : (m n : Uses) (name user : List ℕ) (old : Option (BTreeSet 
     → (q u : List ℕ) → has_name (users_of n q) u ≡ (has_name (users_of m q) u && not (same_name user u && same_name name q))
 users-dropped m n name user old made was put has q u = users-put m n name user old made false was put has q u ∙ as-dropped (same_name name q) (same_name user u) (has_name (users_of m q) u)
 
+drop-nothing : (z y : Bool) → z ≡ (z && not (y && false))
+drop-nothing true true = refl
+drop-nothing true false = refl
+drop-nothing false y = refl
+
 -- a name without users has none to lose
 pub users-none : (m : Uses) (name user : List ℕ) → lookup (is_at (slice_cmp nat_cmp name)) m ≡ None
     → (q u : List ℕ) → has_name (users_of m q) u ≡ (has_name (users_of m q) u && not (same_name user u && same_name name q))
 users-none m name user none q u = by (same_name name q) refl
   where
-    and-not-false : (z y : Bool) → z ≡ (z && not (y && false))
-    and-not-false true true = refl
-    and-not-false true false = refl
-    and-not-false false y = refl
-
     by : (x : Bool) → same_name name q ≡ x → has_name (users_of m q) u ≡ (has_name (users_of m q) u && not (same_name user u && x))
     by true e =
         let mq : has_name (users_of m q) u ≡ false = ap (λ k. has_name (users_of m k) u) (sym (same-is name q e)) ∙ ap (λ o. has_name (users_in o) u) none in
         mq ∙ ap (λ (z : Bool). z && not (same_name user u && true)) (sym mq)
-    by false e = and-not-false (has_name (users_of m q) u) (same_name user u)
+    by false e = drop-nothing (has_name (users_of m q) u) (same_name user u)
 
 -- one more name of a list
 pub has-more : (names : List (List ℕ)) (i : ℕ) (d q : List ℕ) → i < length names → d ≡ get_or names i d → has_name (take (i + 1) names) q ≡ (has_name (take i names) q || same_name q d)
@@ -131,6 +132,11 @@ pub on-err : {A E : Type 0} (P : Type 0) (r : Result A E) → P → OnErr r P
 on-err P (Ok x) p = tt
 on-err P (Err e) p = p
 
+-- what follows from what holds on an error
+pub on-error : {A E : Type 0} (P Q : Type 0) (r : Result A E) → OnErr r P → (P → Q) → OnErr r Q
+on-error P Q (Ok x) p f = tt
+on-error P Q (Err e) p f = f p
+
 pub as-cond : (b : Bool) → b ≡ cond b true false
 as-cond true = refl
 as-cond false = refl
@@ -160,54 +166,36 @@ use-part old new made user names i was same = record {
   used = λ q u. same q u ∙ was q u;
 }
 
-bool-drop : (o u t d k : Bool) → (d ≡ true → k ≡ false) → ((o && not (u && (t && not k))) && not (u && d)) ≡ (o && not (u && ((t || d) && not k)))
-bool-drop false u t d k h = refl
-bool-drop true false t d k h = refl
-bool-drop true true true true true h = absurd (false≢true (sym (h refl)))
-bool-drop true true true true false h = refl
-bool-drop true true true false true h = refl
-bool-drop true true true false false h = refl
-bool-drop true true false true true h = absurd (false≢true (sym (h refl)))
-bool-drop true true false true false h = refl
-bool-drop true true false false true h = refl
-bool-drop true true false false false h = refl
-
-bool-keep : (o u t d k : Bool) → (d ≡ true → k ≡ true) → (o && not (u && (t && not k))) ≡ (o && not (u && ((t || d) && not k)))
-bool-keep false u t d k h = refl
-bool-keep true false t d k h = refl
-bool-keep true true true d k h = refl
-bool-keep true true false false k h = refl
-bool-keep true true false true true h = refl
-bool-keep true true false true false h = absurd (false≢true (h refl))
+bool-drop : (o u t d : Bool) → ((o && not (u && t)) && not (u && d)) ≡ (o && not (u && (t || d)))
+bool-drop false u t d = refl
+bool-drop true false t d = refl
+bool-drop true true true d = refl
+bool-drop true true false d = refl
 
 -- one more of the names is no longer used
-pub unuse-more : (old new made : Uses) (user : List ℕ) (names kept : List (List ℕ)) (i : ℕ) (d : List ℕ) → i < length names → d ≡ get_or names i d
-    → AreUnused old new user (take i names) kept → has_name kept d ≡ false
-    → ((q u : List ℕ) → has_name (users_of made q) u ≡ (has_name (users_of new q) u && not (same_name user u && same_name d q)))
-    → AreUnused old made user (take (i + 1) names) kept
-unuse-more old new made user names kept i d lt is was gone put q u =
+pub unuse-more : (old new made : Uses) (user : List ℕ) (names : List (List ℕ)) (i : ℕ) (d : List ℕ) → i < length names → d ≡ get_or names i d
+    → AreUnused old new user (take i names) → ((q u : List ℕ) → has_name (users_of made q) u ≡ (has_name (users_of new q) u && not (same_name user u && same_name d q)))
+    → AreUnused old made user (take (i + 1) names)
+unuse-more old new made user names i d lt is was put q u =
     put q u ∙ ap (λ b. b && not (same_name user u && same_name d q)) (was q u)
-    ∙ bool-drop (has_name (users_of old q) u) (same_name user u) (has_name (take i names) q) (same_name d q) (has_name kept q) (λ e. ap (has_name kept) (sym (same-is d q e)) ∙ gone)
-    ∙ ap (λ b. has_name (users_of old q) u && not (same_name user u && ((has_name (take i names) q || b) && not (has_name kept q)))) (same-sym d q)
-    ∙ ap (λ b. has_name (users_of old q) u && not (same_name user u && (b && not (has_name kept q)))) (sym (has-more names i d q lt is))
+    ∙ bool-drop (has_name (users_of old q) u) (same_name user u) (has_name (take i names) q) (same_name d q)
+    ∙ ap (λ b. has_name (users_of old q) u && not (same_name user u && (has_name (take i names) q || b))) (same-sym d q)
+    ∙ ap (λ b. has_name (users_of old q) u && not (same_name user u && b)) (sym (has-more names i d q lt is))
 
--- one more of the names is kept
-pub unuse-kept : (old new : Uses) (user : List ℕ) (names kept : List (List ℕ)) (i : ℕ) (d : List ℕ) → i < length names → d ≡ get_or names i d
-    → AreUnused old new user (take i names) kept → has_name kept d ≡ true → AreUnused old new user (take (i + 1) names) kept
-unuse-kept old new user names kept i d lt is was stays q u =
-    was q u
-    ∙ bool-keep (has_name (users_of old q) u) (same_name user u) (has_name (take i names) q) (same_name d q) (has_name kept q) (λ e. ap (has_name kept) (sym (same-is d q e)) ∙ stays)
-    ∙ ap (λ b. has_name (users_of old q) u && not (same_name user u && ((has_name (take i names) q || b) && not (has_name kept q)))) (same-sym d q)
-    ∙ ap (λ b. has_name (users_of old q) u && not (same_name user u && (b && not (has_name kept q)))) (sym (has-more names i d q lt is))
-
--- either way
-pub unuse-either : (old new made : Uses) (user : List ℕ) (names kept : List (List ℕ)) (i : ℕ) (d : List ℕ) → i < length names → d ≡ get_or names i d
-    → AreUnused old new user (take i names) kept
-    → (has_name kept d ≡ false → (q u : List ℕ) → has_name (users_of made q) u ≡ (has_name (users_of new q) u && not (same_name user u && same_name d q)))
-    → (has_name kept d ≡ true → (q u : List ℕ) → has_name (users_of made q) u ≡ has_name (users_of new q) u)
-    → AreUnused old made user (take (i + 1) names) kept
-unuse-either old new made user names kept i d lt is was gone stays = by (has_name kept d) refl
+-- the name that a member refers to is no longer used
+pub unuse-one : (old made : Uses) (user d : List ℕ) (o : Option (List ℕ)) → Some d ≡ o
+    → ((q u : List ℕ) → has_name (users_of made q) u ≡ (has_name (users_of old q) u && not (same_name user u && same_name d q)))
+    → AreUnused old made user (option_to_list o)
+unuse-one old made user d o is put q u =
+    put q u ∙ ap (λ b. has_name (users_of old q) u && not (same_name user u && b)) (same-sym d q ∙ or-false (same_name q d))
+    ∙ ap (λ p. has_name (users_of old q) u && not (same_name user u && has_name (option_to_list p) q)) is
   where
-    by : (b : Bool) → has_name kept d ≡ b → AreUnused old made user (take (i + 1) names) kept
-    by true e = λ q u. stays e q u ∙ unuse-kept old new user names kept i d lt is was e q u
-    by false e = unuse-more old new made user names kept i d lt is was e (gone e)
+    or-false : (b : Bool) → b ≡ (b || false)
+    or-false true = refl
+    or-false false = refl
+
+-- a member that refers to no name leaves all as it was
+pub unuse-none : (old : Uses) (user : List ℕ) (o : Option (List ℕ)) → None ≡ o → AreUnused old old user (option_to_list o)
+unuse-none old user o is q u =
+    drop-nothing (has_name (users_of old q) u) (same_name user u)
+    ∙ ap (λ p. has_name (users_of old q) u && not (same_name user u && has_name (option_to_list p) q)) is

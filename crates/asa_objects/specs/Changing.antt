@@ -1,14 +1,16 @@
 -- A name gets another value.
-use Rattle.std.specs.Prelude.{◌≡◌, ℕ, true, false, List, [], Option, Some, None, Result, Ok, Err, is_some}
-use Rattle.std.specs.List.{AllByRecursion}
+use Rattle.std.specs.Prelude.{◌≡◌, ℕ, not, true, false, List, [], Option, Some, None, Result, Ok, Err, is_some}
+use Rattle.std.specs.List.{AllByRecursion, filter, list_any}
 use Rattle.asa_objects.specs.declared.faults.ObjectFault.{ObjectFault}
 use Rattle.asa_objects.specs.declared.faults.ObjectFault.TheVariants as fault
-use Rattle.asa_objects.specs.declared.changing.Growth.{Growth}
+use Rattle.asa_objects.specs.declared.changing.Effect.{Effect}
 use Rattle.asa_members.specs.declared.stating.Item.{Item}
-use Rattle.asa_objects.specs.Tables.{Table, entry_of, group_at, reaches}
+use Rattle.asa_objects.specs.Tables.{Entry, Table, entry_of, group_at, items_of, reaches, refers_to, with_entry}
 use Rattle.asa_objects.specs.Defining.{are_small}
-use Rattle.asa_objects.specs.Ranks.{Ranks, Uses, rank_of, has_name, users_of, both_totals, refs_in, totals_in}
-use Rattle.asa_objects.specs.Totalling.{ref_totals, totals_in_rank}
+use Rattle.asa_objects.specs.Marks.{AreDistinct, changed, changed_entry}
+use Rattle.asa_objects.specs.Ranks.{Ranks, Uses, both_totals, rank_of, has_name, users_of, refs_in}
+use Rattle.asa_objects.specs.Totalling.{totals_in_rank}
+use Rattle.asa_objects.specs.Weighing.{weights}
 
 -- each of the names has a rank
 abbrev pub AreRanked : Ranks → List (List ℕ) → Type 0
@@ -22,13 +24,36 @@ SameUsers old new = (q u : List ℕ) → has_name (users_of new q) u ≡ has_nam
 abbrev pub RefersTo : Uses → List ℕ → List (List ℕ) → Type 0
 RefersTo uses name refs = (c : List ℕ) → has_name (users_of uses c) name ≡ has_name refs c
 
--- what further members of a name refer to, and what totals it then has
-abbrev pub Grows : Table → Ranks → List ℕ → List Item → Result Growth ObjectFault → Type 0
-Grows t ranks name added (Ok g) =
-    (g.refs.items ≡ refs_in added)
-    × (g.totals ≡ both_totals (totals_in_rank (rank_of ranks name)) (both_totals (totals_in (group_at (entry_of t name)) added) (ref_totals [] ranks (refs_in added))))
-Grows t ranks name added (Err fault.NoMemory) = Unit {0}
-Grows t ranks name added (Err _) = ⊥
+-- the table after a change of the members of a name
+abbrev pub changed_in : Table → List ℕ → List Item → List Item → Option Entry → Table
+changed_in t name gone added None = t
+changed_in t name gone added (Some entry) = with_entry t name (changed_entry entry gone added)
+
+abbrev pub changed_at : Table → List ℕ → List Item → List Item → Table
+changed_at t name gone added = changed_in t name gone added (entry_of t name)
+
+-- those of some names that none of these members refers to
+abbrev pub freed_among : List Item → List (List ℕ) → List (List ℕ)
+freed_among items names = filter (λ c. not (list_any (refers_to c) items)) names
+
+-- the names that members refer to which go, unless one that stays or comes refers to them
+abbrev pub freed_by : List Item → List Item → List Item → List (List ℕ)
+freed_by former gone added = freed_among (changed former gone added) (refs_in gone)
+
+-- what a change of a name's members does: which names come to be referred to, which no longer are, and what totals the name
+-- then has
+pub record HasEffect (t : Table) (ranks : Ranks) (name : List ℕ) (gone added : List Item) (e : Effect) : Type 0 where
+  pub refs : e.refs.items ≡ refs_in added
+  pub freed : e.freed.items ≡ freed_by (items_of t name) gone added
+  pub distinct : AreDistinct (items_of t name)
+  pub totals : both_totals e.totals (weights ranks (group_at (entry_of t name)) gone)
+      ≡ both_totals (totals_in_rank (rank_of ranks name)) (weights ranks (group_at (entry_of t name)) added)
+
+-- what finding that out may answer
+abbrev pub HasEffects : Table → Ranks → List ℕ → List Item → List Item → Result Effect ObjectFault → Type 0
+HasEffects t ranks name gone added (Ok e) = HasEffect t ranks name gone added e
+HasEffects t ranks name gone added (Err fault.NoMemory) = Unit {0}
+HasEffects t ranks name gone added (Err _) = ⊥
 
 -- what a change of a name's value may answer, where the table would become this
 abbrev pub Replaces : Table → Table → Table → Result (Unit {0}) ObjectFault → Type 0

@@ -11,7 +11,7 @@ use Rattle.asa_objects.specs.Tables.{Table, items_of, with_entry}
 use Rattle.asa_objects.specs.Ranks.{Ranks}
 use Rattle.asa_objects.specs.Climbing.{IsAbove}
 use Rattle.asa_objects.specs.Defining.{after_lines, inner_lines, lacks_value}
-use Rattle.asa_objects.specs.Marks.{AreNew, changed, standing}
+use Rattle.asa_objects.specs.Marks.{AreFormer, AreNew, changed, standing}
 
 -- the members after the lines
 abbrev pub drafted_by : Table → Block → Top → Result (List Item) ObjectFault
@@ -19,12 +19,13 @@ drafted_by t b top = after_lines t top.name top.block 2 (items_of t top.name) (i
 
 -- the members that the name had, after what the lines do to them
 abbrev pub after_change : Table → List ℕ → Change → List Item
-after_change t name c = changed (items_of t name) c.gone.keys c.added.keys
+after_change t name c = changed (items_of t name) c.gone.keys c.added
 
 -- what reading the lines gives
 pub record IsDrafted (t : Table) (ranks : Ranks) (b : Block) (top : Top) (d : Drafted) : Type 0 where
   pub members : drafted_by t b top ≡ Ok (after_change t top.name d.change)
-  pub new : AreNew (standing (items_of t top.name) d.change.gone.keys) d.change.added.keys
+  pub new : AreNew (standing (items_of t top.name) d.change.gone.keys) d.change.added
+  pub former : AreFormer (items_of t top.name) d.change.gone.keys
   pub lacks : d.lacks ≡ lacks_value top.block (after_change t top.name d.change)
   pub above : IsAbove t ranks top.name d.names.items
 

@@ -12,3 +12,5 @@ pub mod Expanding
 pub mod Stacks
 pub mod Marks
 pub mod Keeping
+pub mod Weighing
+pub mod Ordering

@@ -38,14 +38,6 @@ both_totals s t = record { members = s.members + t.members; prefixes = s.prefixe
 abbrev pub own_totals : GroupKind → Item → Amounts
 own_totals g i = record { members = length (own_members i); prefixes = total member_prefix_count (own_members i); services = length (item_services g i) }
 
--- how much members state by themselves together
-abbrev pub totals_in : GroupKind → List Item → Amounts
-totals_in g items = record {
-  members = total (λ i. (own_totals g i).members) items;
-  prefixes = total (λ i. (own_totals g i).prefixes) items;
-  services = total (λ i. (own_totals g i).services) items;
-}
-
 -- the names that members refer to, in their order
 abbrev pub refs_in : List Item → List (List ℕ)
 refs_in items = flat_map (λ i. option_to_list (named i)) items

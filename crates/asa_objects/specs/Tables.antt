@@ -1,6 +1,6 @@
 -- The table of objects and groups: each name with its value, in the order of the names' bytes. What is said of a name here
 -- is said by looking it up, so two tables mean the same where each look-up gives the same.
-use Rattle.std.specs.Prelude.{ℕ, suc, Bool, false, ◌||◌, List, [], ◌∷◌, ◌++◌, length, Option, Some, None}
+use Rattle.std.specs.Prelude.{ℕ, suc, Bool, false, ◌||◌, List, [], ◌∷◌, length, Option, Some, None}
 use Rattle.std.specs.List.{list_any, find}
 use Rattle.std.specs.Option.{option_map, option_to_list}
 use Rattle.std.specs.Map.{lookup, remove_entry}
@@ -42,18 +42,6 @@ entry_of t name = lookup (is_at (slice_cmp nat_cmp name)) t
 -- the table with this at the name
 abbrev pub with_entry : Table → List ℕ → Entry → Table
 with_entry t name entry = insert_entry (slice_cmp nat_cmp) t name entry
-
--- the value with further members
-abbrev pub grown : Entry → List Item → Entry
-grown entry added = record { block = entry.block; items = entry.items ++ added }
-
--- the table in which the value at the name has further members
-abbrev pub grown_in : Table → List ℕ → List Item → Option Entry → Table
-grown_in t name added None = t
-grown_in t name added (Some entry) = with_entry t name (grown entry added)
-
-abbrev pub grown_at : Table → List ℕ → List Item → Table
-grown_at t name added = grown_in t name added (entry_of t name)
 
 -- the table without the name
 abbrev pub without_name : Table → List ℕ → Table
@@ -134,9 +122,18 @@ port_proto_in t name = of_entry (entry_of t name)
     of_entry None = None
     of_entry (Some e) = ports_of e.block
 
+-- the only one of some members
+abbrev pub only : List Item → Option Item
+only (i ∷ []) = Some i
+only _ = None
+
 -- the service of a service object's value
 abbrev pub service_of_value : BlockKind → List Item → Option Service
-service_of_value block.ServiceObject (item.Service value ∷ []) = single_service value
+service_of_value block.ServiceObject items = of_only (only items)
+  where
+    of_only : Option Item → Option Service
+    of_only (Some (item.Service value)) = single_service value
+    of_only _ = None
 service_of_value _ _ = None
 
 -- the service of a service object of tcp or udp that has one

@@ -1,13 +1,18 @@
 -- New totals and labels of the names that reach a name, one after another, each from those that are new already.
-use Rattle.std.specs.Prelude.{◌≡◌, ℕ, ◌<◌, ◌≤◌, ◌⊎◌, true, false, List, [], ◌∷◌, ◌++◌, Option, Some, None, Result, Ok, Err, is_some}
+use Rattle.std.specs.Prelude.{◌≡◌, ℕ, ◌+◌, ◌*◌, ◌<◌, ◌≤◌, ◌⊎◌, true, false, cond, List, [], ◌∷◌, ◌++◌, Option, Some, None, Result, Ok, Err, is_some}
 use Rattle.std.specs.List.{AllByRecursion}
+use Rattle.std.specs.Map.{lookup}
+use Rattle.std.specs.BTreeMap.{is_at}
+use Rattle.std.specs.Ordering.{nat_cmp}
+use Rattle.std.specs.Cmp.Lexicographic.{slice_cmp}
+use Rattle.asa_members.specs.declared.stating.Item.{Item}
 use Rattle.asa_objects.specs.Amounts.{Amounts}
 use Rattle.asa_objects.specs.declared.ranking.Rank.{Rank}
 use Rattle.asa_objects.specs.declared.totaling.Renewed.{Renewed}
 use Rattle.asa_objects.specs.declared.faults.ObjectFault.{ObjectFault}
 use Rattle.asa_objects.specs.declared.faults.ObjectFault.TheVariants as fault
 use Rattle.asa_objects.specs.Spreads.{total}
-use Rattle.asa_objects.specs.Tables.{Table, entry_of, items_of, named, same_name}
+use Rattle.asa_objects.specs.Tables.{Table, entry_of, items_of, named, refers_to, same_name}
 use Rattle.asa_objects.specs.Climbing.{Rises}
 use Rattle.asa_objects.specs.Ranks.{Part, members, services, amount, Ranks, rank_of, label_of, amount_in, amount_of, has_name, weigh, no_totals}
 
@@ -30,14 +35,6 @@ totals_in_rank (Some r) = r.totals
 abbrev pub totals_now : Ranks → Ranks → List ℕ → Amounts
 totals_now new ranks name = totals_in_rank (rank_now new ranks name)
 
--- the totals of names together
-abbrev pub ref_totals : Ranks → Ranks → List (List ℕ) → Amounts
-ref_totals new ranks names = record {
-  members = total (λ q. (totals_now new ranks q).members) names;
-  prefixes = total (λ q. (totals_now new ranks q).prefixes) names;
-  services = total (λ q. (totals_now new ranks q).services) names;
-}
-
 -- the sum over a name's members
 abbrev pub summed : Part → Table → Ranks → Ranks → List ℕ → ℕ
 summed k t new ranks name = total (weigh k t (amount_now k new ranks) name) (items_of t name)
@@ -45,6 +42,43 @@ summed k t new ranks name = total (weigh k t (amount_now k new ranks) name) (ite
 -- these totals are the sums over a name's members
 abbrev pub AreSums : Table → Ranks → Ranks → List ℕ → Amounts → Type 0
 AreSums t new ranks name totals = (k : Part) → amount k totals ≡ summed k t new ranks name
+
+-- how often members refer to a name
+abbrev pub times : List ℕ → List Item → ℕ
+times name items = total (λ i. cond (refers_to name i) 1 0) items
+
+-- how often a name refers to another, where it is among these users
+abbrev pub times_among : Table → List ℕ → List (List ℕ) → List ℕ → ℕ
+times_among t name users q = total (λ u. cond (same_name u q) (times name (items_of t q)) 0) users
+
+-- the totals of names that refer to new ones, as far as these go
+abbrev pub Running : Type 0
+Running = List (List ℕ × Amounts)
+
+-- a name's running totals
+abbrev pub sum_of : Running → List ℕ → Option Amounts
+sum_of sums name = lookup (is_at (slice_cmp nat_cmp name)) sums
+
+-- the totals that are new, or else the old ones
+abbrev pub or_old : Option Amounts → Amounts → Amounts
+or_old None old = old
+or_old (Some new) old = new
+
+-- the running totals of a name, or else those that are kept of it
+abbrev pub sum_now : Running → Ranks → List ℕ → Amounts
+sum_now sums ranks name = or_old (sum_of sums name) (totals_in_rank (rank_of ranks name))
+
+-- totals after so many old ones in them became new ones
+abbrev pub AreMoved : ℕ → Amounts → Amounts → Amounts → Amounts → Type 0
+AreMoved count old new before after = (k : Part) → amount k after + count * amount k old ≡ amount k before + count * amount k new
+
+-- a name's totals became others, and each name's running totals tell it as often as it refers to that name
+abbrev pub ArePassed : Table → Ranks → List ℕ → Amounts → Amounts → Running → Running → Type 0
+ArePassed t ranks name old new before after = (q : List ℕ) → AreMoved (times name (items_of t q)) old new (sum_now before ranks q) (sum_now after ranks q)
+
+-- running totals are the sums over the members of each name but for the one that changes
+abbrev pub AreRunning : Table → Ranks → Ranks → List ℕ → Running → Type 0
+AreRunning t new ranks changed sums = (k : Part) (q : List ℕ) → same_name changed q ≡ false → amount k (sum_now sums ranks q) ≡ summed k t new ranks q
 
 -- a name has too many members
 abbrev pub IsOver : Table → Ranks → Ranks → List ℕ → Type 0
@@ -98,16 +132,16 @@ Limits told (Err fault.TooMany) = (65536 < told.members) ⊎ (65536 < told.servi
 Limits told (Err _) = ⊥
 
 -- the name that a member refers to is none of these
-abbrev pub IsApart : List (List ℕ) → Option (List ℕ) → Type 0
-IsApart names None = Unit {0}
-IsApart names (Some name) = has_name names name ≡ false
+abbrev pub IsOutside : List (List ℕ) → Option (List ℕ) → Type 0
+IsOutside names None = Unit {0}
+IsOutside names (Some name) = has_name names name ≡ false
 
 -- after is the table t but for what one name stands for, whose totals then are those that are told
 pub record IsTold (t after : Table) (ranks : Ranks) (name : List ℕ) (told : Amounts) (names : List (List ℕ)) : Type 0 where
   pub laid : IsLaid after ranks names
   pub others : (q : List ℕ) → same_name name q ≡ false → entry_of after q ≡ entry_of t q
   pub sums : AreSums after [] ranks name told
-  pub apart : AllByRecursion (λ i. IsApart names (named i)) (items_of after name)
+  pub apart : AllByRecursion (λ i. IsOutside names (named i)) (items_of after name)
 
 -- what the renewal of all these names may answer
 abbrev pub Renews : Table → Ranks → ℕ → List (List ℕ) → Result Renewed ObjectFault → Type 0

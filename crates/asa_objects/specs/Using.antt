@@ -15,9 +15,9 @@ pub record IsPartUsed (old new : Uses) (user : List ℕ) (names : List (List ℕ
   pub split : names ≡ some ++ rest
   pub used : AreUsed old new user some
 
--- one name no longer refers to those of these others that aren't kept
-abbrev pub AreUnused : Uses → Uses → List ℕ → List (List ℕ) → List (List ℕ) → Type 0
-AreUnused old new user names kept = (q u : List ℕ) → has_name (users_of new q) u ≡ (has_name (users_of old q) u && not (same_name user u && (has_name names q && not (has_name kept q))))
+-- one name no longer refers to these others
+abbrev pub AreUnused : Uses → Uses → List ℕ → List (List ℕ) → Type 0
+AreUnused old new user names = (q u : List ℕ) → has_name (users_of new q) u ≡ (has_name (users_of old q) u && not (same_name user u && has_name names q))
 
 -- those of these others that one name doesn't refer to
 abbrev pub unused_in : Uses → List (List ℕ) → List ℕ → List (List ℕ)

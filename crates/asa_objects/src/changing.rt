@@ -1,39 +1,29 @@
-//! What is kept of names, as one of them gets another value. Each change is taken whole or not at all.
+//! What is kept of names, as the members of one of them change. Each change is taken whole or not at all.
 ghost use Rattle.std.specs.Prelude.{◌≡◌, ℕ, List, [], ◌++◌, true, false, cond, Some, None, is_some, IfSome, IfErr, IfOk, OnOk, OnErr};
 ghost use Rattle.asa_objects.specs.declared.faults.ObjectFault.TheVariants as fault;
 ghost use Rattle.asa_objects.specs.Changing as spec;
 ghost use Rattle.asa_objects.specs.Climbing.{IsAbove};
-ghost use Rattle.asa_objects.specs.Marks.{AreNew};
-ghost use Rattle.asa_objects.specs.Ranks.{IsSound, has_name, rank_of, users_of};
-ghost use Rattle.asa_objects.specs.Tables.{entry_of, grown_at, items_of, named, same_name, with_entry};
-ghost use Rattle.asa_objects.specs.Totalling.{newer};
+ghost use Rattle.asa_objects.specs.Marks.{AreFormer, AreNew, changed, standing};
+ghost use Rattle.asa_objects.specs.Ranks.{IsSound, both_totals, has_name, rank_of, refs_in, users_of};
+ghost use Rattle.asa_objects.specs.Tables.{entry_of, group_at, items_of, named, refers_to, same_name};
+ghost use Rattle.asa_objects.specs.Totalling.{newer, totals_in_rank};
 ghost use Rattle.asa_objects.specs.Using.{AreUsed, AreUnused, unused_in};
-ghost use Rattle.std.specs.List.{AllByRecursion};
+ghost use Rattle.asa_objects.specs.Weighing.{weights};
+ghost use Rattle.std.specs.List.{AllByRecursion, list_any};
+ghost use Rattle.std.specs.Option.{option_to_list};
 
+use crate::drafting::Change;
 use crate::faults::ObjectFault;
-use crate::ranking::{Rank, Totals};
-use crate::totaling::{Renewed, renew, totals_grown, totals_with_refs};
-use crate::using::{add_uses, drop_uses, set_of, unused_of};
-use crate::valuing::{Stated, group_of, refs_in};
+use crate::ordering::OrderedItems;
+use crate::ranking::{Rank, Totals, totals_of};
+use crate::totaling::{Renewed, renew};
+use crate::using::{add_uses, drop_uses, unused_of};
+use crate::valuing::{Stated, group_of, name_in};
+use crate::weighing::{weight_of_items, weight_of_slice};
 use asa_base::Name;
-use asa_members::Item;
-use indexmap::IndexSet;
+use asa_members::{GroupKind, Item};
 use std::alloc::{AllocError, Global};
 use std::collections::{BTreeMap, BTreeSet};
-
-/// Puts another value at a name that is there, and gives the former one.
-pub(crate) fn put_value(values: &mut BTreeMap<Name, Stated>, name: &Name, stated: Stated) -> Stated
-    requires { is_some (entry_of values.old.entries name.now) ≡ true }
-    ensures value { entry_of values.old.entries name.now ≡ Some result }
-    ensures entries { values.new.entries ≡ with_entry values.old.entries name.now stated }
-    ensures found { (q : List ℕ) → entry_of values.new.entries q ≡ cond (same_name name.now q) (Some stated) (entry_of values.old.entries q) }
-{
-    match values.insert(name.copy(), stated) {
-        Ok(Some(old)) => old,
-        Ok(None) => unreachable!(),
-        Err(_) => unreachable!(),
-    }
-}
 
 /// Puts another rank at a name that has one.
 fn set_rank(ranks: &mut BTreeMap<Name, Rank>, name: &Name, rank: Rank)
@@ -67,11 +57,10 @@ fn set_ranks(ranks: &mut BTreeMap<Name, Rank>, new: &BTreeMap<Name, Rank>, names
 }
 
 /// Takes back that a name refers to others, to which it didn't refer before.
-fn forget_refs(alloc: Global, uses: &mut BTreeMap<Name, BTreeSet<Name>>, name: &Name, refs: &[Name])
-    ensures { AreUnused uses.old.entries uses.new.entries name.now refs.now [] }
+fn forget_refs(uses: &mut BTreeMap<Name, BTreeSet<Name>>, name: &Name, refs: &[Name])
+    ensures { AreUnused uses.old.entries uses.new.entries name.now refs.now }
 {
-    let none = BTreeSet::new(alloc);
-    drop_uses(uses, refs, &none, name);
+    drop_uses(uses, refs, name);
 }
 
 /// Notes that a name refers to others, and tells to which of them it didn't refer before. On want of memory all is as before.
@@ -89,29 +78,10 @@ fn note_refs(
     match add_uses(alloc, uses, fresh.as_slice(), name) {
         Ok(()) => Ok(fresh),
         Err(error) => {
-            forget_refs(alloc, uses, name, fresh.as_slice());
+            forget_refs(uses, name, fresh.as_slice());
             Err(error)
         }
     }
-}
-
-/// Takes the new ranks of names, and no longer notes the names that a name referred to, but for those that it still does.
-fn settle(
-    ranks: &mut BTreeMap<Name, Rank>,
-    uses: &mut BTreeMap<Name, BTreeSet<Name>>,
-    renewed: &Renewed,
-    name: &Name,
-    names: &[Name],
-    former: &[Name],
-    refs: &BTreeSet<Name>,
-)
-    requires ranked { spec.AreRanked ranks.old.entries names.now }
-    requires covers { (q : List ℕ) → is_some (rank_of renewed.now.ranks.entries q) ≡ has_name names.now q }
-    ensures ranks { (q : List ℕ) → rank_of ranks.new.entries q ≡ newer (rank_of renewed.now.ranks.entries q) (rank_of ranks.old.entries q) }
-    ensures uses { AreUnused uses.old.entries uses.new.entries name.now former.now refs.now.keys }
-{
-    set_ranks(ranks, &renewed.ranks, names);
-    drop_uses(uses, former, refs, name);
 }
 
 /// What is kept of the names of a table beside their values.
@@ -121,43 +91,6 @@ pub(crate) struct Kept {
     pub(crate) uses: BTreeMap<Name, BTreeSet<Name>>,
     /// The next label.
     pub(crate) stamp: u64,
-}
-
-/// Takes another value of a name that is there and that `names` reach, in the order of their labels. After a refusal all
-/// is as before.
-pub(crate) fn replace_value(
-    alloc: Global,
-    values: &mut BTreeMap<Name, Stated>,
-    kept: &mut Kept,
-    name: &Name,
-    made: Stated,
-    names: &[Name],
-) -> Result<(), ObjectFault>
-    requires sound { IsSound values.old.entries kept.old.ranks.entries kept.old.uses.entries kept.old.stamp }
-    requires there { is_some (entry_of values.old.entries name.now) ≡ true }
-    requires above { IsAbove values.old.entries kept.old.ranks.entries name.now names.now }
-    requires fits { AllByRecursion (λ i. spec.Fits values.old.entries name.now (named i)) made.items }
-    ensures sound { IsSound values.new.entries kept.new.ranks.entries kept.new.uses.entries kept.new.stamp }
-    ensures answer { spec.Replaces values.old.entries values.new.entries (with_entry values.old.entries name.now made) result }
-{
-    let new_refs = set_of(alloc, made.refs())?;
-    let Some(totals) = totals_with_refs(alloc, &kept.ranks, &made) else {
-        return Err(ObjectFault::NoMemory);
-    };
-    let renewed = renew(alloc, values, &kept.ranks, kept.stamp, name, totals, names)?;
-    let _fresh = note_refs(alloc, &mut kept.uses, name, made.refs())?;
-    let former = put_value(values, name, made);
-    settle(
-        &mut kept.ranks,
-        &mut kept.uses,
-        &renewed,
-        name,
-        names,
-        former.refs(),
-        &new_refs,
-    );
-    kept.stamp = renewed.label;
-    Ok(())
 }
 
 /// The value of a name that is there.
@@ -171,91 +104,151 @@ pub(crate) fn stated_of<'a>(values: &'a BTreeMap<Name, Stated>, name: &Name) -> 
     }
 }
 
-/// Adds members that aren't there to the value of a name that is there. On want of memory all is as before.
-fn grow_at(
-    alloc: Global,
+/// Changes the members of the value of a name that is there. On want of memory all is as before.
+fn change_at(
     values: &mut BTreeMap<Name, Stated>,
     name: &Name,
-    added: IndexSet<Item>,
+    change: &Change,
 ) -> Result<(), AllocError>
     requires there { is_some (entry_of values.old.entries name.now) ≡ true }
-    requires new { AreNew (items_of values.old.entries name.now) added.keys }
-    ensures ok { OnOk result (values.new.entries ≡ grown_at values.old.entries name.now added.keys) }
+    requires new { AreNew (standing (items_of values.old.entries name.now) change.now.gone.keys) change.now.added }
+    ensures ok { OnOk result (values.new.entries ≡ spec.changed_at values.old.entries name.now change.now.gone.keys change.now.added) }
     ensures err { OnErr result (values.new.entries ≡ values.old.entries) }
 {
     match values.get_mut(name) {
-        Some(stated) => {
-            stated.grow(alloc, added)?;
-            Ok(())
-        }
+        Some(stated) => stated.change(&change.gone, &change.added),
         None => unreachable!(),
     }
 }
 
-/// The names that further members of a name refer to, and the totals that it then has.
+/// The names that members refer to, in their order.
+fn refs_of(alloc: Global, items: &OrderedItems) -> Result<Vec<Name>, AllocError>
+    ensures { IfOk result (λ v. v.items ≡ refs_in items.now) }
+{
+    let mut refs = Vec::new(alloc);
+    for item in items.values() {
+        if let Some(name) = name_in(item) {
+            refs.push(name.copy())?;
+        }
+    }
+    Ok(refs)
+}
+
+/// Whether a member refers to a name after a change of the members.
+fn still_refers(former: &OrderedItems, change: &Change, name: &Name) -> bool
+    ensures { result ≡ list_any (refers_to name.now) (changed former.now change.now.gone.keys change.now.added) }
+{
+    change.leaves(former, &Item::Object(name.copy()))
+        || change.leaves(former, &Item::Group(name.copy()))
+}
+
+/// Lists the name that a member refers to which goes, unless another refers to it after the change.
+fn push_freed(
+    former: &OrderedItems,
+    change: &Change,
+    item: &Item,
+    freed: &mut Vec<Name>,
+) -> Result<(), AllocError>
+    ensures { OnOk result (freed.new.items ≡ freed.old.items ++ spec.freed_among (changed former.now change.now.gone.keys change.now.added) (option_to_list (named item.now))) }
+{
+    if let Some(name) = name_in(item) {
+        if !still_refers(former, change, name) {
+            freed.push(name.copy())?;
+        }
+    }
+    Ok(())
+}
+
+/// The names that are no longer referred to after a change of members.
+fn freed_by(alloc: Global, former: &OrderedItems, change: &Change) -> Result<Vec<Name>, AllocError>
+    ensures { IfOk result (λ v. v.items ≡ spec.freed_by former.now change.now.gone.keys change.now.added) }
+{
+    let mut freed = Vec::new(alloc);
+    for item in change.gone.as_slice() {
+        push_freed(former, change, item, &mut freed)?;
+    }
+    Ok(freed)
+}
+
+/// The totals of a name after a change of its members.
+fn totals_after(
+    ranks: &BTreeMap<Name, Rank>,
+    name: &Name,
+    group: GroupKind,
+    change: &Change,
+) -> Option<Totals>
+    ensures { IfSome result (λ t. both_totals t (weights ranks.now.entries group change.now.gone.keys) ≡ both_totals (totals_in_rank (rank_of ranks.now.entries name.now)) (weights ranks.now.entries group change.now.added)) }
+{
+    let more = weight_of_items(ranks, group, &change.added)?;
+    let less = weight_of_slice(ranks, group, change.gone.as_slice())?;
+    totals_of(ranks, name).plus(more)?.minus(less)
+}
+
+/// What a change of a name's members does: the names that come to be referred to, those that no longer are, and the totals
+/// that the name then has.
 #[derive(Debug, Drop)]
-struct Growth {
+struct Effect {
     refs: Vec<Name>,
+    freed: Vec<Name>,
     totals: Totals,
 }
 
-/// What further members of a name that is there refer to, and what totals it then has. A total that passes its type's end
-/// counts as want of memory.
-fn growth_of(
+/// What a change of the members of a name that is there does. A total that passes its type's end counts as want of memory.
+fn effect_of(
     alloc: Global,
     values: &BTreeMap<Name, Stated>,
     ranks: &BTreeMap<Name, Rank>,
     name: &Name,
-    added: &[Item],
-) -> Result<Growth, ObjectFault>
+    change: &Change,
+) -> Result<Effect, ObjectFault>
     requires { is_some (entry_of values.now.entries name.now) ≡ true }
-    ensures { spec.Grows values.now.entries ranks.now.entries name.now added.now result }
+    ensures { spec.HasEffects values.now.entries ranks.now.entries name.now change.now.gone.keys change.now.added result }
 {
-    let refs = refs_in(alloc, added)?;
-    let group = group_of(stated_of(values, name).block());
-    match totals_grown(alloc, ranks, name, group, added, refs.as_slice()) {
-        Some(totals) => Ok(Growth { refs, totals }),
+    let stated = stated_of(values, name);
+    let _members = stated.items().values();
+    let refs = refs_of(alloc, &change.added)?;
+    let freed = freed_by(alloc, stated.items(), change)?;
+    match totals_after(ranks, name, group_of(stated.block()), change) {
+        Some(totals) => Ok(Effect {
+            refs,
+            freed,
+            totals,
+        }),
         None => Err(ObjectFault::NoMemory),
     }
 }
 
-/// Adds members that aren't there to a name that is there and that `names` reach, in the order of their labels. Unless a copy
-/// shares the members that the name has, this costs nothing that grows with them. After a refusal all is as before.
-pub(crate) fn grow_value(
+/// Changes the members of a name that is there and that `names` reach, in the order of their labels. Unless a copy shares the
+/// members that the name has, this costs nothing that grows with them. After a refusal all is as before.
+pub(crate) fn change_members(
     alloc: Global,
     values: &mut BTreeMap<Name, Stated>,
     kept: &mut Kept,
     name: &Name,
-    added: IndexSet<Item>,
+    change: &Change,
     names: &[Name],
 ) -> Result<(), ObjectFault>
     requires sound { IsSound values.old.entries kept.old.ranks.entries kept.old.uses.entries kept.old.stamp }
     requires there { is_some (entry_of values.old.entries name.now) ≡ true }
     requires above { IsAbove values.old.entries kept.old.ranks.entries name.now names.now }
-    requires new { AreNew (items_of values.old.entries name.now) added.keys }
-    requires fits { AllByRecursion (λ i. spec.Fits values.old.entries name.now (named i)) (items_of values.old.entries name.now ++ added.keys) }
+    requires new { AreNew (standing (items_of values.old.entries name.now) change.now.gone.keys) change.now.added }
+    requires former { AreFormer (items_of values.old.entries name.now) change.now.gone.keys }
+    requires fits { AllByRecursion (λ i. spec.Fits values.old.entries name.now (named i)) (changed (items_of values.old.entries name.now) change.now.gone.keys change.now.added) }
     ensures sound { IsSound values.new.entries kept.new.ranks.entries kept.new.uses.entries kept.new.stamp }
-    ensures answer { spec.Replaces values.old.entries values.new.entries (grown_at values.old.entries name.now added.keys) result }
+    ensures answer { spec.Replaces values.old.entries values.new.entries (spec.changed_at values.old.entries name.now change.now.gone.keys change.now.added) result }
 {
-    let growth = growth_of(alloc, values, &kept.ranks, name, added.as_slice())?;
-    let renewed = renew(
-        alloc,
-        values,
-        &kept.ranks,
-        kept.stamp,
-        name,
-        growth.totals,
-        names,
-    )?;
-    let fresh = note_refs(alloc, &mut kept.uses, name, growth.refs.as_slice())?;
-    match grow_at(alloc, values, name, added) {
+    let effect = effect_of(alloc, values, &kept.ranks, name, change)?;
+    let renewed = renew(alloc, values, kept, name, effect.totals, names)?;
+    let fresh = note_refs(alloc, &mut kept.uses, name, effect.refs.as_slice())?;
+    match change_at(values, name, change) {
         Ok(()) => {
             set_ranks(&mut kept.ranks, &renewed.ranks, names);
+            drop_uses(&mut kept.uses, effect.freed.as_slice(), name);
             kept.stamp = renewed.label;
             Ok(())
         }
         Err(_) => {
-            forget_refs(alloc, &mut kept.uses, name, fresh.as_slice());
+            forget_refs(&mut kept.uses, name, fresh.as_slice());
             Err(ObjectFault::NoMemory)
         }
     }

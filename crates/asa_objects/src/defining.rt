@@ -1,32 +1,32 @@
 //! A block changes the value of a name that is in the table.
-ghost use Rattle.std.specs.Prelude.{◌≡◌, ℕ, ◌+◌, ◌≤◌, List, [], true, false, is_some, None, Some, length, OnOk, OnErr, IfOk};
+ghost use Rattle.std.specs.Prelude.{◌≡◌, List, true, false, is_some, IsSomeAnd, None, Some};
 ghost use Rattle.asa_objects.specs.Climbing.{IsAbove};
 ghost use Rattle.asa_objects.specs.Defining as spec;
 ghost use Rattle.asa_objects.specs.Drafting as over;
 ghost use Rattle.asa_objects.specs.Changing.{Fits, Replaces};
-ghost use Rattle.asa_objects.specs.Marks.{AreNew, changed, standing};
+ghost use Rattle.asa_objects.specs.Marks.{AreFormer, AreNew, changed, standing};
 ghost use Rattle.asa_objects.specs.Ranks.{IsSound};
 ghost use Rattle.asa_objects.specs.Tables.{entry_of, items_of, named};
 ghost use Rattle.std.specs.List.{AllByRecursion};
 
-use crate::changing::{Kept, grow_value, replace_value, stated_of};
+use crate::changing::{Kept, change_members, stated_of};
 use crate::climbing::above;
 use crate::drafting::{Change, Draft};
 use crate::faults::ObjectFault;
 use crate::opening::{close_name, open_name};
+use crate::ordering::OrderedItems;
 use crate::stating::{inner_lines, missing_column, take_lines};
 use crate::using::set_of;
 use crate::valuing::Stated;
 use asa_base::Name;
-use asa_members::{BlockKind, Item, Top};
+use asa_members::{BlockKind, Top};
 use asa_text::Block;
-use indexmap::IndexSet;
 use std::alloc::Global;
 use std::collections::BTreeMap;
 
 /// Whether an object has no value after a change of its former members. A group needs none.
-fn lacks_value(block: BlockKind, former: &IndexSet<Item>, change: &Change) -> bool
-    ensures { result ≡ spec.lacks_value block (changed former.now.keys change.now.gone.keys change.now.added.keys) }
+fn lacks_value(block: BlockKind, former: &OrderedItems, change: &Change) -> bool
+    ensures { result ≡ spec.lacks_value block (changed former.now change.now.gone.keys change.now.added) }
 {
     match block {
         BlockKind::Group(_) => false,
@@ -76,20 +76,12 @@ fn read_lines(
         inner_lines(block),
     )?;
     let change = draft.into_change();
-    let lacks = lacks_value(top.block, stated.set(), &change);
+    let lacks = lacks_value(top.block, stated.items(), &change);
     Ok(Drafted {
         change,
         lacks,
         names,
     })
-}
-
-/// Whether a change of a value only adds members.
-fn only_adds(stated: &Stated, block: BlockKind, change: &Change) -> bool
-    ensures gone { result ≡ true → change.now.gone.keys ≡ [] }
-    ensures block { result ≡ true → stated.now.block ≡ block }
-{
-    change.gone.as_slice().is_empty() && stated.block() == block
 }
 
 /// Takes a change of the members of a name that is in the table. After a refusal all is as before.
@@ -98,24 +90,19 @@ fn take_change(
     values: &mut BTreeMap<Name, Stated>,
     kept: &mut Kept,
     top: &Top,
-    change: Change,
+    change: &Change,
     names: &[Name],
 ) -> Result<(), ObjectFault>
     requires sound { IsSound values.old.entries kept.old.ranks.entries kept.old.uses.entries kept.old.stamp }
-    requires there { is_some (entry_of values.old.entries top.now.name) ≡ true }
+    requires there { IsSomeAnd (entry_of values.old.entries top.now.name) (λ e. e.block ≡ top.now.block) }
     requires above { IsAbove values.old.entries kept.old.ranks.entries top.now.name names.now }
-    requires new { AreNew (standing (items_of values.old.entries top.now.name) change.gone.keys) change.added.keys }
-    requires fits { AllByRecursion (λ i. Fits values.old.entries top.now.name (named i)) (over.after_change values.old.entries top.now.name change) }
+    requires new { AreNew (standing (items_of values.old.entries top.now.name) change.now.gone.keys) change.now.added }
+    requires former { AreFormer (items_of values.old.entries top.now.name) change.now.gone.keys }
+    requires fits { AllByRecursion (λ i. Fits values.old.entries top.now.name (named i)) (over.after_change values.old.entries top.now.name change.now) }
     ensures sound { IsSound values.new.entries kept.new.ranks.entries kept.new.uses.entries kept.new.stamp }
-    ensures answer { Replaces values.old.entries values.new.entries (over.taken values.old.entries top.now change) result }
+    ensures answer { Replaces values.old.entries values.new.entries (over.taken values.old.entries top.now change.now) result }
 {
-    let stated = stated_of(values, &top.name);
-    if only_adds(stated, top.block, &change) {
-        return grow_value(alloc, values, kept, &top.name, change.added, names);
-    }
-    let items = change.of(stated.set())?;
-    let made = Stated::new(alloc, top.block, items)?;
-    replace_value(alloc, values, kept, &top.name, made, names)
+    change_members(alloc, values, kept, &top.name, change, names)
 }
 
 /// Takes the block of a name that is in the table. After a refusal all is as before.
@@ -127,7 +114,7 @@ pub(crate) fn change_value(
     top: &Top,
 ) -> Result<(), ObjectFault>
     requires sound { IsSound values.old.entries kept.old.ranks.entries kept.old.uses.entries kept.old.stamp }
-    requires there { is_some (entry_of values.old.entries top.now.name) ≡ true }
+    requires there { IsSomeAnd (entry_of values.old.entries top.now.name) (λ e. e.block ≡ top.now.block) }
     ensures sound { IsSound values.new.entries kept.new.ranks.entries kept.new.uses.entries kept.new.stamp }
     ensures answer { spec.Defines result values.old.entries values.new.entries (spec.changed_by values.old.entries block.now top.now) }
 {
@@ -146,7 +133,7 @@ pub(crate) fn change_value(
     if values.len() > 16384 {
         return Err(ObjectFault::TooMany);
     }
-    take_change(alloc, values, kept, top, change, names.as_slice())
+    take_change(alloc, values, kept, top, &change, names.as_slice())
 }
 
 /// Takes the block of a name that isn't in the table. After a refusal all is as before.
@@ -167,7 +154,7 @@ fn define_new(
     match result {
         Ok(()) => Ok(()),
         Err(fault) => {
-            close_name(alloc, values, kept, &top.name);
+            close_name(values, kept, &top.name);
             Err(fault)
         }
     }

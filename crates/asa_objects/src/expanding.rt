@@ -14,6 +14,7 @@ use asa_members::{BlockKind, GroupKind, Item};
 use asa_text::Items;
 use std::alloc::{AllocError, Global};
 use std::collections::BTreeMap;
+use std::collections::btree_map::Values;
 
 /// Why a name isn't expanded.
 #[derive(Clone, Copy, Debug, PartialEq, Eq)]
@@ -40,27 +41,21 @@ impl From<AllocError> for ExpandFault {
 }
 
 /// Members of a name that are still to be listed, and their form.
-#[derive(Clone, Copy)]
+#[derive(Drop)]
 struct Rest<'a> {
-    items: &'a [Item],
+    items: Values<'a, u64, Item>,
     group: GroupKind,
 }
 
-/// The members of a name and their form.
-fn rest_of<'a>(values: &'a BTreeMap<Name, Stated>, name: &Name) -> Rest<'a>
-    ensures items { result.items.now ≡ table.items_of values.now.entries name.now }
-    ensures group { result.group ≡ table.group_at (table.entry_of values.now.entries name.now) }
+/// Puts the members of a value among what is still to be listed.
+fn wait_for_rest<'a>(stated: &'a Stated, stack: &mut Vec<Rest<'a>>) -> Result<(), AllocError>
+    ensures { OnOk result (lists.IsWaiting stack.old.items stack.new.items stated.now) }
 {
-    match values.get(name) {
-        Some(stated) => Rest {
-            items: stated.items(),
-            group: group_of(stated.block()),
-        },
-        None => Rest {
-            items: &[],
-            group: GroupKind::Network,
-        },
-    }
+    stack.push(Rest {
+        items: stated.items().values(),
+        group: group_of(stated.block()),
+    })?;
+    Ok(())
 }
 
 /// Puts a name's members among what is still to be listed, unless the name has no address.
@@ -77,8 +72,10 @@ fn wait_for_members<'a>(
     if totals_of(&kept.ranks, name).members == 0 {
         return Ok(());
     }
-    stack.push(rest_of(values, name))?;
-    Ok(())
+    match values.get(name) {
+        Some(stated) => wait_for_rest(stated, stack),
+        None => Ok(()),
+    }
 }
 
 /// Lists the address that a member states by itself.
@@ -100,16 +97,14 @@ fn step_members<'a>(
     out: &mut Vec<Member>,
 ) -> Result<(), AllocError>
     requires { IsSound values.now.entries kept.now.ranks.entries kept.now.uses.entries kept.now.stamp }
-    ensures listed { OnOk result (out.new.items ++ lists.unwound_members values.now.entries stack.new.items ≡ out.old.items ++ (lists.given_by table.own_members (table.members_of values.now.entries) rest.entry.items.now ++ lists.unwound_members values.now.entries stack.old.items)) }
-    ensures shorter { OnOk result (lists.cost values.now.entries stack.new.items < lists.cost_of values.now.entries rest.entry.items.now + lists.cost values.now.entries stack.old.items) }
+    ensures listed { OnOk result (out.new.items ++ lists.unwound_members values.now.entries stack.new.items ≡ out.old.items ++ (lists.given_by table.own_members (table.members_of values.now.entries) rest.entry.items ++ lists.unwound_members values.now.entries stack.old.items)) }
+    ensures shorter { OnOk result (lists.cost values.now.entries stack.new.items < lists.cost_of values.now.entries rest.entry.items + lists.cost values.now.entries stack.old.items) }
 {
-    let Some((first, after)) = rest.items.split_first() else {
+    let Rest { mut items, group } = rest;
+    let Some(first) = items.next() else {
         return Ok(());
     };
-    stack.push(Rest {
-        items: after,
-        group: rest.group,
-    })?;
+    stack.push(Rest { items, group })?;
     match name_in(first) {
         Some(name) => wait_for_members(values, kept, name, stack),
         None => push_member(out, first),
@@ -149,8 +144,10 @@ fn wait_for_services<'a>(
     if totals_of(&kept.ranks, name).services == 0 {
         return Ok(());
     }
-    stack.push(rest_of(values, name))?;
-    Ok(())
+    match values.get(name) {
+        Some(stated) => wait_for_rest(stated, stack),
+        None => Ok(()),
+    }
 }
 
 /// Lists the services that a member states by itself.
@@ -169,17 +166,14 @@ fn step_services<'a>(
     out: &mut Vec<Service>,
 ) -> Result<(), AllocError>
     requires { IsSound values.now.entries kept.now.ranks.entries kept.now.uses.entries kept.now.stamp }
-    ensures listed { OnOk result (out.new.items ++ lists.unwound_services values.now.entries stack.new.items ≡ out.old.items ++ (lists.given_by (item_services rest.entry.group) (table.services_of_name values.now.entries) rest.entry.items.now ++ lists.unwound_services values.now.entries stack.old.items)) }
-    ensures shorter { OnOk result (lists.cost values.now.entries stack.new.items < lists.cost_of values.now.entries rest.entry.items.now + lists.cost values.now.entries stack.old.items) }
+    ensures listed { OnOk result (out.new.items ++ lists.unwound_services values.now.entries stack.new.items ≡ out.old.items ++ (lists.given_by (item_services rest.entry.group) (table.services_of_name values.now.entries) rest.entry.items ++ lists.unwound_services values.now.entries stack.old.items)) }
+    ensures shorter { OnOk result (lists.cost values.now.entries stack.new.items < lists.cost_of values.now.entries rest.entry.items + lists.cost values.now.entries stack.old.items) }
 {
-    let group = rest.group;
-    let Some((first, after)) = rest.items.split_first() else {
+    let Rest { mut items, group } = rest;
+    let Some(first) = items.next() else {
         return Ok(());
     };
-    stack.push(Rest {
-        items: after,
-        group,
-    })?;
+    stack.push(Rest { items, group })?;
     match name_in(first) {
         Some(name) => wait_for_services(values, kept, name, stack),
         None => push_services(out, group, first),

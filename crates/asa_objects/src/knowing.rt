@@ -1,7 +1,9 @@
 //! What the readers of lines ask of the names of the table.
 ghost use Rattle.std.specs.Prelude.{◌≡◌};
+ghost use Rattle.std.specs.Option.{option_copied};
 ghost use Rattle.asa_objects.specs.Tables as spec;
 
+use crate::ordering::OrderedItems;
 use crate::valuing::Stated;
 use asa_base::{Addr, Kind, Name, Names, PortProto, Service};
 use asa_members::{BlockKind, GroupKind, Item};
@@ -23,12 +25,24 @@ fn ports_of(block: BlockKind) -> Option<PortProto>
     }
 }
 
+/// The only one of some members.
+fn only(items: &OrderedItems) -> Option<&Item>
+    ensures { option_copied result ≡ spec.only items.now }
+{
+    let mut values = items.values();
+    let first = values.next()?;
+    match values.next() {
+        Some(_) => None,
+        None => Some(first),
+    }
+}
+
 /// The service of a service object's value.
-fn service_of_value(block: BlockKind, items: &[Item]) -> Option<Service>
+fn service_of_value(block: BlockKind, items: &OrderedItems) -> Option<Service>
     ensures { result ≡ spec.service_of_value block items.now }
 {
-    match (block, items) {
-        (BlockKind::ServiceObject, [Item::Service(value)]) => value.single_service(),
+    match (block, only(items)) {
+        (BlockKind::ServiceObject, Some(Item::Service(value))) => value.single_service(),
         _ => None,
     }
 }

@@ -10,6 +10,7 @@ mod expanding;
 mod faults;
 mod knowing;
 mod opening;
+mod ordering;
 mod ranking;
 mod stating;
 mod tabling;
@@ -18,6 +19,7 @@ mod tests;
 mod totaling;
 mod using;
 mod valuing;
+mod weighing;
 
 pub use expanding::ExpandFault;
 pub use faults::ObjectFault;

@@ -7,11 +7,10 @@ ghost use Rattle.asa_objects.specs.Tables.{entry_of, items_of, refers_to, same_n
 
 use crate::changing::Kept;
 use crate::ranking::{Rank, Totals};
-use crate::using::drop_uses;
+use crate::using::drop_refs;
 use crate::valuing::Stated;
 use asa_base::Name;
 use asa_members::BlockKind;
-use indexmap::IndexSet;
 use std::alloc::{AllocError, Global};
 use std::collections::{BTreeMap, BTreeSet};
 
@@ -42,7 +41,7 @@ pub(crate) fn open_name(
     let Some(next) = kept.stamp.checked_add(1) else {
         return Err(AllocError);
     };
-    let empty = Stated::new(alloc, block, IndexSet::new(alloc))?;
+    let empty = Stated::empty(alloc, block)?;
     values.insert(name.copy(), empty)?;
     match kept.ranks.insert(name.copy(), empty_rank(kept.stamp)) {
         Ok(_) => {
@@ -64,12 +63,7 @@ fn forget_users(uses: &mut BTreeMap<Name, BTreeSet<Name>>, name: &Name)
 }
 
 /// Takes out a name that no name refers to.
-pub(crate) fn close_name(
-    alloc: Global,
-    values: &mut BTreeMap<Name, Stated>,
-    kept: &mut Kept,
-    name: &Name,
-) -> bool
+pub(crate) fn close_name(values: &mut BTreeMap<Name, Stated>, kept: &mut Kept, name: &Name) -> bool
     requires sound { IsSound values.old.entries kept.old.ranks.entries kept.old.uses.entries kept.old.stamp }
     requires unused { (q : List ℕ) → list_any (refers_to name.now) (items_of values.old.entries q) ≡ false }
     ensures found { result ≡ is_some (entry_of values.old.entries name.now) }
@@ -79,8 +73,7 @@ pub(crate) fn close_name(
     let Some(former) = values.remove(name) else {
         return false;
     };
-    let none = BTreeSet::new(alloc);
-    drop_uses(&mut kept.uses, former.refs(), &none, name);
+    drop_refs(&mut kept.uses, former.items(), name);
     forget_users(&mut kept.uses, name);
     kept.ranks.remove(name);
     true

@@ -2,7 +2,7 @@
 //! members it has once it is expanded.
 ghost use Rattle.std.specs.Prelude.{◌≡◌, ◌+◌, ◌*◌, ◌≤◌, IfSome};
 ghost use Rattle.asa_objects.specs.Ranks as spec;
-ghost use Rattle.asa_objects.specs.Totalling.{totals_in_rank};
+ghost use Rattle.asa_objects.specs.Totalling.{AreMoved, totals_in_rank};
 
 use asa_base::Name;
 use asa_members::{GroupKind, Item};
@@ -52,6 +52,32 @@ impl Totals {
         }
     }
 
+    /// These totals, or None where they have more prefixes than their members may have.
+    pub(crate) fn of(members: u64, prefixes: u64, services: u64) -> Option<Totals>
+        ensures { IfSome result (λ t. t ≡ record { members = members; prefixes = prefixes; services = services }) }
+    {
+        let most = members.checked_mul(62)?;
+        if prefixes <= most {
+            Some(Totals {
+                members,
+                prefixes,
+                services,
+            })
+        } else {
+            None
+        }
+    }
+
+    /// These totals where some in them become others, as often as told, or None where a number would pass its type's end.
+    pub(crate) fn moved(self, count: u64, old: Totals, new: Totals) -> Option<Totals>
+        ensures { IfSome result (λ t. AreMoved count old new self t) }
+    {
+        let members = moved(self.members, count, old.members, new.members)?;
+        let prefixes = moved(self.prefixes, count, old.prefixes, new.prefixes)?;
+        let services = moved(self.services, count, old.services, new.services)?;
+        Totals::of(members, prefixes, services)
+    }
+
     /// The prefixes.
     pub(crate) fn prefixes(self) -> u64
         ensures value { result ≡ self.prefixes }
@@ -73,6 +99,25 @@ impl Totals {
             services,
         })
     }
+
+    /// The one without the other, or None where a number would be less than 0.
+    pub(crate) fn minus(self, other: Totals) -> Option<Totals>
+        ensures { IfSome result (λ t. spec.both_totals t other ≡ self) }
+    {
+        let members = self.members.checked_sub(other.members)?;
+        let prefixes = self.prefixes.checked_sub(other.prefixes)?;
+        let services = self.services.checked_sub(other.services)?;
+        Totals::of(members, prefixes, services)
+    }
+}
+
+/// A sum in which an old number becomes a new one, as often as told, or None where it would pass its type's end.
+fn moved(sum: u64, count: u64, old: u64, new: u64) -> Option<u64>
+    ensures { IfSome result (λ n. n + count * old ≡ sum + count * new) }
+{
+    let more = count.checked_mul(new)?;
+    let less = count.checked_mul(old)?;
+    sum.checked_add(more)?.checked_sub(less)
 }
 
 /// How much a member of a name states by itself, where the name's members have this form.

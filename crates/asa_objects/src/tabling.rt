@@ -211,6 +211,6 @@ impl Objects {
         ensures value { self.new ≡ table.without_name self.old name.now }
         ensures kept { KeepsRest self.old self.new name.now }
     {
-        close_name(self.alloc, &mut self.values, &mut self.kept, name)
+        close_name(&mut self.values, &mut self.kept, name)
     }
 }

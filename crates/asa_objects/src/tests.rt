@@ -1,631 +1,799 @@
 //! What lies outside the contracts: that the clauses mean what they should, at small tables and at large ones.
-ghost use Rattle.std.specs.Prelude.{◌+◌, ◌<◌, ◌-◌, ◌^◌, length};
+ghost use Rattle.std.specs.Prelude.{◌<◌, ◌^◌, length};
 
 use crate::{ExpandFault, ObjectFault, Objects};
 use asa_base::{Addr, Kind, Member, Name, PortProto, PortRange, Service};
-use asa_text::{Items, cut_blocks, push_bytes, push_number};
-use std::alloc::Global;
+use asa_text::{Block, Items, cut_blocks, push_bytes, push_number};
 use std::ops::Range;
-use std::test::Fail;
+use std::process::Abort;
 
-fn name(text: &[u8]) -> Result<Name, Fail> {
-    Ok(Name::new(text).ok_or("no name")?)
+fn name(rt: &impl Abort, text: &[u8]) -> Name {
+    Name::new(text).expect(rt, "a name")
 }
 
-/// Takes the blocks of a text up to the first that is refused, and tells that refusal.
-fn take(alloc: Global, objects: &mut Objects, text: &[u8]) -> Result<Result<(), ObjectFault>, Fail>
-    requires { 1 + length text.now < 2 ^ 32 - 1 }
+/// The blocks of a text.
+fn blocks_of(rt: &(impl Abort + AllocGlobal), text: &[u8]) -> Items<Block>
+    requires { length text.now < 2 ^ 31 }
 {
-    let blocks = cut_blocks(alloc, text, 1)?.map_err(|_| "no blocks")?;
-    for block in blocks.as_slice() {
-        if let Err(fault) = objects.define(block) {
-            return Ok(Err(fault));
-        }
+    let blocks = cut_blocks(rt.alloc(), text, 1).expect(rt, "memory for the blocks");
+    blocks.expect(rt, "a top-level line before the others")
+}
+
+/// Takes blocks up to the first that is refused, and tells that refusal.
+fn take(objects: &mut Objects, blocks: &[Block]) -> Result<(), ObjectFault> {
+    for block in blocks {
+        objects.define(block)?;
     }
-    Ok(Ok(()))
+    Ok(())
+}
+
+/// Asserts that the blocks of a text are all taken.
+fn assert_taken(rt: &(impl Abort + AllocGlobal), objects: &mut Objects, text: &[u8])
+    requires { length text.now < 2 ^ 31 }
+{
+    let blocks = blocks_of(rt, text);
+    assert_eq!(rt; take(objects, blocks.as_slice()), Ok(()));
+}
+
+/// Asserts that a block of a text is refused, the ones before it being taken.
+fn assert_refused(
+    rt: &(impl Abort + AllocGlobal),
+    objects: &mut Objects,
+    fault: ObjectFault,
+    text: &[u8],
+)
+    requires { length text.now < 2 ^ 31 }
+{
+    let blocks = blocks_of(rt, text);
+    assert_eq!(rt; take(objects, blocks.as_slice()), Err(fault));
 }
 
 /// The table of a text whose blocks are all taken.
-fn table(alloc: Global, text: &[u8]) -> Result<Objects, Fail>
-    requires { 1 + length text.now < 2 ^ 32 - 1 }
+fn table(rt: &(impl Abort + AllocGlobal), text: &[u8]) -> Objects
+    requires { length text.now < 2 ^ 31 }
 {
-    let mut objects = Objects::new(alloc);
-    take(alloc, &mut objects, text)?.map_err(|_| "refused")?;
-    Ok(objects)
+    let mut objects = Objects::new(rt.alloc());
+    assert_taken(rt, &mut objects, text);
+    objects
+}
+
+/// The table of a text that a loop wrote.
+fn long_table(rt: &(impl Abort + AllocGlobal), text: &[u8]) -> Objects {
+    assert!(rt; text.len() <= 8_000_000);
+    table(rt, text)
+}
+
+fn copy_of(rt: &impl Abort, objects: &Objects) -> Objects {
+    objects.copy().expect(rt, "memory for a copy")
 }
 
 /// The names that reach what the first block of a text defines.
-fn reaching(alloc: Global, objects: &Objects, text: &[u8]) -> Result<Items<Name>, Fail>
-    requires { 1 + length text.now < 2 ^ 32 - 1 }
+fn reaching(rt: &(impl Abort + AllocGlobal), objects: &Objects, text: &[u8]) -> Items<Name>
+    requires { length text.now < 2 ^ 31 }
 {
-    let blocks = cut_blocks(alloc, text, 1)?.map_err(|_| "no blocks")?;
-    let block = blocks.as_slice().first().ok_or("no block")?;
-    Ok(objects.reaching(alloc, block)?)
+    let blocks = blocks_of(rt, text);
+    let block = blocks.as_slice().first().expect(rt, "a block");
+    objects
+        .reaching(rt.alloc(), block)
+        .expect(rt, "memory for the names")
+}
+
+fn assert_has_name(rt: &impl Abort, names: &[Name], text: &[u8]) {
+    let name = name(rt, text);
+    assert!(rt; names.contains(&name));
+}
+
+/// Asserts how many members a name has.
+fn assert_members(rt: &impl Abort, objects: &Objects, text: &[u8], count: u64) {
+    let name = name(rt, text);
+    assert_eq!(rt; objects.member_count(&name), count);
+}
+
+/// Asserts how many prefixes a name has.
+fn assert_prefixes(rt: &impl Abort, objects: &Objects, text: &[u8], count: u64) {
+    let name = name(rt, text);
+    assert_eq!(rt; objects.prefix_total(&name), count);
+}
+
+/// Asserts how many services a name has.
+fn assert_services(rt: &impl Abort, objects: &Objects, text: &[u8], count: u64) {
+    let name = name(rt, text);
+    assert_eq!(rt; objects.service_count(&name), count);
+}
+
+fn assert_kind(rt: &impl Abort, objects: &Objects, text: &[u8], kind: Option<Kind>) {
+    let name = name(rt, text);
+    assert_eq!(rt; objects.kind_of(&name), kind);
+}
+
+/// Asserts that the first group that names a name is this one.
+fn assert_user(rt: &impl Abort, objects: &Objects, text: &[u8], user: &[u8]) {
+    let name = name(rt, text);
+    let first = objects
+        .group_using(&name)
+        .expect(rt, "a group that names it");
+    assert!(rt; first.bytes() == user);
+    assert!(rt; objects.is_used(&name));
+}
+
+/// Asserts that no group names a name.
+fn assert_free(rt: &impl Abort, objects: &Objects, text: &[u8]) {
+    let name = name(rt, text);
+    assert!(rt; objects.group_using(&name).is_none());
+    assert!(rt; !objects.is_used(&name));
+}
+
+/// Takes out a name that no group names, and answers whether it was there.
+fn removed(rt: &impl Abort, objects: &mut Objects, text: &[u8]) -> bool {
+    let name = name(rt, text);
+    assert!(rt; objects.group_using(&name).is_none());
+    objects.remove(&name)
+}
+
+fn members_of(rt: &(impl Abort + AllocGlobal), objects: &Objects, text: &[u8]) -> Items<Member> {
+    objects
+        .members(rt.alloc(), &name(rt, text))
+        .expect(rt, "memory for the members")
+}
+
+/// What a name of addresses stands for.
+fn network_of(rt: &impl Abort, objects: &Objects, text: &[u8]) -> Items<Member> {
+    objects
+        .expand_network(&name(rt, text))
+        .expect(rt, "members")
+}
+
+/// What a name of services stands for.
+fn service_of(rt: &impl Abort, objects: &Objects, text: &[u8]) -> Items<Service> {
+    objects
+        .expand_service(&name(rt, text))
+        .expect(rt, "services")
+}
+
+/// Asserts how many members a name stands for.
+fn assert_network(rt: &impl Abort, objects: &Objects, text: &[u8], count: usize) {
+    let members = network_of(rt, objects, text);
+    assert_eq!(rt; members.len(), count);
+}
+
+/// Asserts the first of the services that a name stands for.
+fn assert_first_service(rt: &impl Abort, objects: &Objects, text: &[u8], service: Service) {
+    let services = service_of(rt, objects, text);
+    assert_eq!(rt; services.as_slice().first().copied(), Some(service));
+}
+
+/// Asserts that a name stands for no members.
+fn assert_no_network(rt: &impl Abort, objects: &Objects, text: &[u8], fault: ExpandFault) {
+    let name = name(rt, text);
+    assert_eq!(rt; objects.expand_network(&name).err(), Some(fault));
+}
+
+/// Asserts that a name stands for no services.
+fn assert_no_service(rt: &impl Abort, objects: &Objects, text: &[u8], fault: ExpandFault) {
+    let name = name(rt, text);
+    assert_eq!(rt; objects.expand_service(&name).err(), Some(fault));
+}
+
+/// The host whose number is in the last two bytes of its address.
+fn host(number: u32) -> Member {
+    Member::Host(Addr(0x0a00_0000 | number))
+}
+
+/// Asserts that a name stands for the hosts 10.0.0.n of these numbers, in their order.
+fn assert_hosts(rt: &(impl Abort + AllocGlobal), objects: &Objects, group: &[u8], numbers: &[u8]) {
+    let members = members_of(rt, objects, group);
+    let mut hosts = Vec::new(rt.alloc());
+    for number in numbers {
+        let host = host(u32::from(*number));
+        hosts.push(host).expect(rt, "memory for a host");
+    }
+    assert!(rt; members.as_slice() == hosts.as_slice());
+}
+
+fn push(rt: &impl Abort, text: &mut Vec<u8>, bytes: &[u8]) {
+    push_bytes(text, bytes).expect(rt, "memory for the text");
+}
+
+fn push_digits(rt: &impl Abort, text: &mut Vec<u8>, number: u32) {
+    push_number(text, u64::from(number)).expect(rt, "memory for the text");
 }
 
 /// Each number of a range, written between two pieces.
 fn push_repeated(
+    rt: &impl Abort,
     text: &mut Vec<u8>,
     numbers: Range<u32>,
     before: &[u8],
     after: &[u8],
-) -> Result<(), Fail> {
+) {
     for number in numbers {
-        push_bytes(text, before)?;
-        push_number(text, u64::from(number))?;
-        push_bytes(text, after)?;
+        push(rt, text, before);
+        push_digits(rt, text, number);
+        push(rt, text, after);
     }
-    Ok(())
 }
 
-#[test]
-fn a_group_that_names_one_that_is_not_there_or_itself_is_refused(
-    rt: HostRuntime,
-) -> Result<(), Fail> {
-    let mut objects = Objects::new(rt.alloc());
-    let unknown = take(
-        rt.alloc(),
-        &mut objects,
-        b"object-group network G\n group-object H\n",
-    )?;
-    assert_eq!(rt;
-        unknown,
-        Err(ObjectFault::Unknown {
-            line: 2,
-            column: 15
-        })
-    );
-    assert_eq!(rt; objects.len(), 0);
-    let itself = take(
-        rt.alloc(),
-        &mut objects,
-        b"object-group network G\n group-object G\n",
-    )?;
-    assert_eq!(rt; itself, Err(ObjectFault::Cycle { line: 2 }));
-    let cycle = take(
-        rt.alloc(),
-        &mut objects,
-        b"object-group network G\n network-object host 10.0.0.9\nobject-group network H\n group-object G\nobject-group network I\n group-object H\nobject-group network G\n group-object I\n",
-    )?;
-    assert_eq!(rt; cycle, Err(ObjectFault::Cycle { line: 2 }));
-    assert_eq!(rt; objects.len(), 3);
-    assert_eq!(rt; objects.member_count(&name(b"G")?), 1);
-    Ok(())
-}
-
-#[test]
-fn groups_of_groups_reach_what_a_block_defines(rt: HostRuntime) -> Result<(), Fail> {
-    let objects = table(
-        rt.alloc(),
-        b"object-group network A\nobject-group network B\n group-object A\nobject-group network C\n network-object host 10.0.0.1\n group-object B\nobject-group network D\n network-object host 10.0.0.2\n",
-    )?;
-    let names = reaching(
-        rt.alloc(),
-        &objects,
-        b"object-group network A\n group-object D\n",
-    )?;
-    assert_eq!(rt; names.len(), 3);
-    assert!(rt; names.as_slice().contains(&name(b"A")?));
-    assert!(rt; names.as_slice().contains(&name(b"B")?));
-    assert!(rt; names.as_slice().contains(&name(b"C")?));
-    let top = reaching(rt.alloc(), &objects, b"object-group network C\n")?;
-    assert_eq!(rt; top.len(), 1);
-    assert!(rt; top.as_slice().contains(&name(b"C")?));
-    let new = reaching(
-        rt.alloc(),
-        &objects,
-        b"object-group network E\n group-object A\n",
-    )?;
-    assert_eq!(rt; new.len(), 1);
-    assert!(rt; new.as_slice().contains(&name(b"E")?));
-    let unread = reaching(rt.alloc(), &objects, b"object-group network\n")?;
-    assert!(rt; unread.as_slice().is_empty());
-    Ok(())
-}
-
-#[test]
-fn names_stand_for_their_members_in_order(rt: HostRuntime) -> Result<(), Fail> {
-    let objects = table(
-        rt.alloc(),
-        b"object network A\n range 10.0.0.1 10.0.0.6\nobject service S\n service tcp destination eq 80\nobject-group network G\n network-object host 10.0.0.9\nobject-group network H\n network-object host 10.0.0.1\n group-object G\n network-object object A\n network-object 10.0.1.0 255.255.255.255\n",
-    )?;
-    let members = objects
-        .expand_network(&name(b"H")?)
-        .map_err(|_| "not expanded")?;
-    assert_eq!(rt; members.len(), 4);
-    assert_eq!(rt;
-        members.as_slice().get(1).copied(),
-        Some(Member::Host(Addr(0x0a00_0009)))
-    );
-    assert_eq!(rt;
-        members.as_slice().get(3).copied(),
-        Some(Member::Host(Addr(0x0a00_0100)))
-    );
-    assert_eq!(rt; objects.member_count(&name(b"H")?), 4);
-    assert_eq!(rt; objects.prefix_total(&name(b"H")?), 7);
-    assert!(rt; objects.members(rt.alloc(), &name(b"H")?)?.as_slice() == members.as_slice());
-    assert!(rt;
-        objects
-            .members(rt.alloc(), &name(b"S")?)?
-            .as_slice()
-            .is_empty()
-    );
-    assert_eq!(rt; objects.services(rt.alloc(), &name(b"S")?)?.len(), 1);
-    assert!(rt;
-        objects
-            .services(rt.alloc(), &name(b"H")?)?
-            .as_slice()
-            .is_empty()
-    );
-    assert_eq!(rt;
-        objects.expand_network(&name(b"X")?).err(),
-        Some(ExpandFault::Unknown)
-    );
-    assert_eq!(rt;
-        objects.expand_network(&name(b"S")?).err(),
-        Some(ExpandFault::WrongKind)
-    );
-    assert_eq!(rt;
-        objects.expand_service(&name(b"A")?).err(),
-        Some(ExpandFault::WrongKind)
-    );
-    assert_eq!(rt;
-        objects.expand_service(&name(b"X")?).err(),
-        Some(ExpandFault::Unknown)
-    );
-    Ok(())
-}
-
-#[test]
-fn services_of_every_kind_are_told(rt: HostRuntime) -> Result<(), Fail> {
-    let objects = table(
-        rt.alloc(),
-        b"object service S\n service tcp destination eq 80\nobject-group service G\n service-object tcp-udp destination neq 5\n service-object object S\nobject-group service P tcp-udp\n port-object range 1 9\nobject-group protocol Q\n protocol-object ip\nobject-group icmp-type I\n icmp-object echo\n",
-    )?;
-    assert_eq!(rt; objects.service_count(&name(b"G")?), 5);
-    assert_eq!(rt;
-        objects
-            .expand_service(&name(b"G")?)
-            .map_err(|_| "not expanded")?
-            .len(),
-        5
-    );
-    let mut ports = Service::any();
-    ports.dport = PortRange::new(1, 9).ok_or("no range")?;
-    let of_ports = objects
-        .expand_service(&name(b"P")?)
-        .map_err(|_| "not expanded")?;
-    assert_eq!(rt; of_ports.as_slice().first().copied(), Some(ports));
-    let of_protocols = objects
-        .expand_service(&name(b"Q")?)
-        .map_err(|_| "not expanded")?;
-    assert_eq!(rt;
-        of_protocols.as_slice().first().copied(),
-        Some(Service::any())
-    );
-    let mut echo = Service::any();
-    echo.proto = Some(1);
-    echo.itype = Some(8);
-    let of_types = objects
-        .expand_service(&name(b"I")?)
-        .map_err(|_| "not expanded")?;
-    assert_eq!(rt; of_types.as_slice().first().copied(), Some(echo));
-    assert_eq!(rt;
-        objects.service_range(&name(b"S")?).map(|s| s.dport),
-        PortRange::new(80, 80)
-    );
-    assert_eq!(rt; objects.service_range(&name(b"G")?), None);
-    assert_eq!(rt; objects.port_proto(&name(b"P")?), Some(PortProto::TcpUdp));
-    assert_eq!(rt; objects.kind_of(&name(b"I")?), Some(Kind::IcmpGroup));
-    Ok(())
-}
-
-#[test]
-fn blocks_extend_replace_and_take_out(rt: HostRuntime) -> Result<(), Fail> {
-    let mut objects = table(
-        rt.alloc(),
-        b"object network A\n host 10.0.0.1\nobject-group network G\n network-object host 10.0.0.9\n network-object object A\nobject-group network B\n network-object object A\n",
-    )?;
-    let twice = take(
-        rt.alloc(),
-        &mut objects,
-        b"object-group network G\n network-object host 10.0.0.9\n",
-    )?;
-    assert_eq!(rt; twice, Ok(()));
-    assert_eq!(rt; objects.member_count(&name(b"G")?), 2);
-    let missing = take(
-        rt.alloc(),
-        &mut objects,
-        b"object-group network G\n network-object host 10.0.0.8\n no network-object host 10.0.0.7\n",
-    )?;
-    assert_eq!(rt; missing, Err(ObjectFault::NoSuchMember { line: 3 }));
-    assert_eq!(rt; objects.member_count(&name(b"G")?), 2);
-    let taken = take(rt.alloc(), &mut objects, b"object-group service G tcp\n")?;
-    assert_eq!(rt; taken, Err(ObjectFault::NameTaken));
-    let empty = take(
-        rt.alloc(),
-        &mut objects,
-        b"object network N\n description x\n",
-    )?;
-    assert_eq!(rt;
-        empty,
-        Err(ObjectFault::Bad {
-            line: 1,
-            column: 17
-        })
-    );
-    assert_eq!(rt; objects.kind_of(&name(b"N")?), None);
-    let copy = objects.copy()?;
-    assert_eq!(rt;
-        take(
-            rt.alloc(),
-            &mut objects,
-            b"object network A\n range 10.0.0.1 10.0.0.6\n"
-        )?,
-        Ok(())
-    );
-    assert_eq!(rt; objects.prefix_total(&name(b"G")?), 5);
-    assert_eq!(rt; copy.prefix_total(&name(b"G")?), 2);
-    assert_eq!(rt;
-        objects.group_using(&name(b"A")?).map(|n| n.bytes().len()),
-        Some(1)
-    );
-    assert!(rt;
-        objects
-            .group_using(&name(b"A")?)
-            .is_some_and(|n| n.bytes() == b"B".as_slice())
-    );
-    let gone = take(
-        rt.alloc(),
-        &mut objects,
-        b"object-group network B\n no network-object object A\nobject-group network G\n no network-object object A\n",
-    )?;
-    assert_eq!(rt; gone, Ok(()));
-    assert!(rt; !objects.is_used(&name(b"A")?));
-    assert!(rt; copy.is_used(&name(b"A")?));
-    Ok(())
-}
-
-#[test]
-fn a_nat_line_is_refused_in_the_order_of_lines(rt: HostRuntime) -> Result<(), Fail> {
-    let mut objects = table(rt.alloc(), b"object network A\n host 10.0.0.1\n")?;
-    let alone = take(
-        rt.alloc(),
-        &mut objects,
-        b"object network A\n host 10.0.0.2\n nat (any,any) static 10.0.0.9\n",
-    )?;
-    assert_eq!(rt; alone, Err(ObjectFault::NotBuilt { line: 3 }));
-    let removal = take(rt.alloc(), &mut objects, b"object network A\n no nat x\n")?;
-    assert_eq!(rt; removal, Err(ObjectFault::NotBuilt { line: 2 }));
-    let after_another = take(
-        rt.alloc(),
-        &mut objects,
-        b"object network A\n host x\n nat dynamic interface\n",
-    )?;
-    assert_eq!(rt; after_another, Err(ObjectFault::Bad { line: 2, column: 7 }));
-    let before_another = take(
-        rt.alloc(),
-        &mut objects,
-        b"object network A\n nat dynamic interface\n host x\n",
-    )?;
-    assert_eq!(rt; before_another, Err(ObjectFault::NotBuilt { line: 2 }));
-    let without_value = take(
-        rt.alloc(),
-        &mut objects,
-        b"object network B\n description x\n nat dynamic interface\n",
-    )?;
-    assert_eq!(rt; without_value, Err(ObjectFault::NotBuilt { line: 3 }));
-    assert_eq!(rt; objects.kind_of(&name(b"B")?), None);
-    assert_eq!(rt;
-        objects.members(rt.alloc(), &name(b"A")?)?.as_slice(),
-        [Member::Host(Addr(0x0a00_0001))].as_slice()
-    );
-    Ok(())
+/// A line of a host whose number is in the last two bytes of its address.
+fn push_host(rt: &impl Abort, text: &mut Vec<u8>, before: &[u8], number: u32) {
+    push(rt, text, before);
+    push_digits(rt, text, number / 256);
+    push(rt, text, b".");
+    push_digits(rt, text, number % 256);
+    push(rt, text, b"\n");
 }
 
 /// Lines of hosts, of which each is a number below 65,536 in the last two bytes of its address.
-fn push_hosts(text: &mut Vec<u8>, before: &[u8], from: u32, to: u32) -> Result<(), Fail> {
+fn push_hosts(rt: &impl Abort, text: &mut Vec<u8>, before: &[u8], from: u32, to: u32) {
     for number in from..to {
-        push_bytes(text, before)?;
-        push_number(text, u64::from(number / 256))?;
-        push_bytes(text, b".")?;
-        push_number(text, u64::from(number % 256))?;
-        push_bytes(text, b"\n")?;
+        push_host(rt, text, before, number);
     }
-    Ok(())
 }
 
 /// A group of the hosts whose numbers are below 65,536, of which the first ones are taken out again.
-fn hosts(alloc: Global, gone: u32) -> Result<Objects, Fail> {
-    let mut text = Vec::new(alloc);
-    push_bytes(&mut text, b"object-group network G\n")?;
-    push_hosts(&mut text, b" network-object host 10.0.", 0, 65536)?;
-    push_hosts(&mut text, b" no network-object host 10.0.", 0, gone)?;
-    if text.len() > 8_000_000 {
-        return Err(Fail::from("long"));
-    }
-    table(alloc, text.as_slice())
-}
-
-#[test]
-fn a_group_takes_65536_members(rt: HostRuntime) -> Result<(), Fail> {
-    let mut objects = hosts(rt.alloc(), 0)?;
-    assert_eq!(rt; objects.member_count(&name(b"G")?), 65536);
-    assert_eq!(rt;
-        objects
-            .expand_network(&name(b"G")?)
-            .map_err(|_| "not expanded")?
-            .len(),
-        65536
-    );
-    let more = take(
-        rt.alloc(),
-        &mut objects,
-        b"object-group network G\n network-object host 10.1.0.0\n",
-    )?;
-    assert_eq!(rt; more, Err(ObjectFault::TooMany));
-    Ok(())
-}
-
-#[test]
-fn members_are_taken_out_one_by_one(rt: HostRuntime) -> Result<(), Fail> {
-    let objects = hosts(rt.alloc(), 65535)?;
-    let members = objects
-        .expand_network(&name(b"G")?)
-        .map_err(|_| "not expanded")?;
-    assert_eq!(rt; members.len(), 1);
-    assert_eq!(rt;
-        members.as_slice().first().copied(),
-        Some(Member::Host(Addr(0x0a00_ffff)))
-    );
-    Ok(())
-}
-
-#[test]
-fn a_group_within_a_group_counts_there_too(rt: HostRuntime) -> Result<(), Fail> {
+fn hosts(rt: &(impl Abort + AllocGlobal), gone: u32) -> Objects {
     let mut text = Vec::new(rt.alloc());
-    push_bytes(&mut text, b"object-group service G\n")?;
+    push(rt, &mut text, b"object-group network G\n");
+    push_hosts(rt, &mut text, b" network-object host 10.0.", 0, 65536);
+    push_hosts(rt, &mut text, b" no network-object host 10.0.", 0, gone);
+    long_table(rt, text.as_slice())
+}
+
+/// A group of a level on a side that has both groups of the level below.
+fn push_side(rt: &impl Abort, text: &mut Vec<u8>, side: &[u8], level: u32) {
+    push(rt, text, b"object-group network ");
+    push(rt, text, side);
+    push_digits(rt, text, level);
+    push(rt, text, b"\n group-object a");
+    push_digits(rt, text, level.saturating_sub(1));
+    push(rt, text, b"\n group-object b");
+    push_digits(rt, text, level.saturating_sub(1));
+    push(rt, text, b"\n");
+}
+
+/// A group that begins with this.
+fn push_bottom(rt: &impl Abort, text: &mut Vec<u8>, group: &[u8], bottom: &[u8]) {
+    push(rt, text, b"object-group network ");
+    push(rt, text, group);
+    push(rt, text, bottom);
+    push(rt, text, b"\n");
+}
+
+/// Levels up to one, of two groups that each have both groups of the level below, over two groups that begin with this.
+fn levels(rt: &(impl Abort + AllocGlobal), top: u32, bottom: &[u8]) -> Objects {
+    let mut text = Vec::new(rt.alloc());
+    push_bottom(rt, &mut text, b"a0", bottom);
+    push_bottom(rt, &mut text, b"b0", bottom);
+    for level in 1..=top {
+        push_side(rt, &mut text, b"a", level);
+        push_side(rt, &mut text, b"b", level);
+    }
+    long_table(rt, text.as_slice())
+}
+
+#[test]
+fn a_group_that_names_one_that_is_not_there_or_itself_is_refused(rt: HostRuntime) {
+    let unknown = ObjectFault::Unknown {
+        line: 2,
+        column: 15,
+    };
+    let cycle = ObjectFault::Cycle { line: 2 };
+    let mut objects = Objects::new(rt.alloc());
+    assert_refused(
+        &rt,
+        &mut objects,
+        unknown,
+        b"object-group network G\n group-object H\n",
+    );
+    assert_eq!(rt; objects.len(), 0);
+    assert_refused(
+        &rt,
+        &mut objects,
+        cycle,
+        b"object-group network G\n group-object G\n",
+    );
+    assert_refused(
+        &rt,
+        &mut objects,
+        cycle,
+        b"object-group network G\n network-object host 10.0.0.9\nobject-group network H\n group-object G\nobject-group network I\n group-object H\nobject-group network G\n group-object I\n",
+    );
+    assert_eq!(rt; objects.len(), 3);
+    assert_members(&rt, &objects, b"G", 1);
+}
+
+#[test]
+fn groups_of_groups_reach_what_a_block_defines(rt: HostRuntime) {
+    let objects = table(
+        &rt,
+        b"object-group network A\nobject-group network B\n group-object A\nobject-group network C\n network-object host 10.0.0.1\n group-object B\nobject-group network D\n network-object host 10.0.0.2\n",
+    );
+    let names = reaching(&rt, &objects, b"object-group network A\n group-object D\n");
+    assert_eq!(rt; names.len(), 3);
+    assert_has_name(&rt, names.as_slice(), b"A");
+    assert_has_name(&rt, names.as_slice(), b"B");
+    assert_has_name(&rt, names.as_slice(), b"C");
+    let top = reaching(&rt, &objects, b"object-group network C\n");
+    assert_eq!(rt; top.len(), 1);
+    assert_has_name(&rt, top.as_slice(), b"C");
+    let new = reaching(&rt, &objects, b"object-group network E\n group-object A\n");
+    assert_eq!(rt; new.len(), 1);
+    assert_has_name(&rt, new.as_slice(), b"E");
+    let unread = reaching(&rt, &objects, b"object-group network\n");
+    assert!(rt; unread.as_slice().is_empty());
+}
+
+#[test]
+fn names_stand_for_their_members_in_order(rt: HostRuntime) {
+    let objects = table(
+        &rt,
+        b"object network A\n range 10.0.0.1 10.0.0.6\nobject service S\n service tcp destination eq 80\nobject-group network G\n network-object host 10.0.0.9\nobject-group network H\n network-object host 10.0.0.1\n group-object G\n network-object object A\n network-object 10.0.1.0 255.255.255.255\n",
+    );
+    let members = network_of(&rt, &objects, b"H");
+    assert_eq!(rt; members.len(), 4);
+    assert_eq!(rt; members.as_slice().get(1).copied(), Some(host(9)));
+    assert_eq!(rt; members.as_slice().get(3).copied(), Some(host(256)));
+    assert_members(&rt, &objects, b"H", 4);
+    assert_prefixes(&rt, &objects, b"H", 7);
+    assert!(rt; members_of(&rt, &objects, b"H").as_slice() == members.as_slice());
+    assert!(rt; members_of(&rt, &objects, b"S").as_slice().is_empty());
+    let (s, h) = (name(&rt, b"S"), name(&rt, b"H"));
+    let services = objects.services(rt.alloc(), &s).expect(&rt, "memory");
+    assert_eq!(rt; services.len(), 1);
+    let none = objects.services(rt.alloc(), &h).expect(&rt, "memory");
+    assert_eq!(rt; none.len(), 0);
+    assert_no_network(&rt, &objects, b"X", ExpandFault::Unknown);
+    assert_no_network(&rt, &objects, b"S", ExpandFault::WrongKind);
+    assert_no_service(&rt, &objects, b"A", ExpandFault::WrongKind);
+    assert_no_service(&rt, &objects, b"X", ExpandFault::Unknown);
+}
+
+#[test]
+fn services_of_every_kind_are_told(rt: HostRuntime) {
+    let objects = table(
+        &rt,
+        b"object service S\n service tcp destination eq 80\nobject-group service G\n service-object tcp-udp destination neq 5\n service-object object S\nobject-group service P tcp-udp\n port-object range 1 9\nobject-group protocol Q\n protocol-object ip\nobject-group icmp-type I\n icmp-object echo\n",
+    );
+    assert_services(&rt, &objects, b"G", 5);
+    assert_eq!(rt; service_of(&rt, &objects, b"G").len(), 5);
+    let mut ports = Service::any();
+    ports.dport = PortRange::new(1, 9).expect(&rt, "a range");
+    let mut echo = Service::any();
+    echo.proto = Some(1);
+    echo.itype = Some(8);
+    assert_first_service(&rt, &objects, b"P", ports);
+    assert_first_service(&rt, &objects, b"Q", Service::any());
+    assert_first_service(&rt, &objects, b"I", echo);
+    let (s, g, p) = (name(&rt, b"S"), name(&rt, b"G"), name(&rt, b"P"));
+    let http = PortRange::new(80, 80).expect(&rt, "a range");
+    assert_eq!(rt; objects.service_range(&s).map(|s| s.dport), Some(http));
+    assert_eq!(rt; objects.service_range(&g), None);
+    assert_eq!(rt; objects.port_proto(&p), Some(PortProto::TcpUdp));
+    assert_kind(&rt, &objects, b"I", Some(Kind::IcmpGroup));
+}
+
+/// Asserts that a group G with two members stays as it is where blocks are refused.
+fn assert_refusals(rt: &(impl Abort + AllocGlobal), objects: &mut Objects) {
+    let missing = ObjectFault::NoSuchMember { line: 3 };
+    let empty = ObjectFault::Bad {
+        line: 1,
+        column: 17,
+    };
+    assert_refused(
+        rt,
+        objects,
+        missing,
+        b"object-group network G\n network-object host 10.0.0.8\n no network-object host 10.0.0.7\n",
+    );
+    assert_members(rt, objects, b"G", 2);
+    assert_refused(
+        rt,
+        objects,
+        ObjectFault::NameTaken,
+        b"object-group service G tcp\n",
+    );
+    assert_refused(rt, objects, empty, b"object network N\n description x\n");
+    assert_kind(rt, objects, b"N", None);
+}
+
+#[test]
+fn blocks_extend_replace_and_take_out(rt: HostRuntime) {
+    let mut objects = table(
+        &rt,
+        b"object network A\n host 10.0.0.1\nobject-group network G\n network-object host 10.0.0.9\n network-object object A\nobject-group network B\n network-object object A\n",
+    );
+    assert_taken(
+        &rt,
+        &mut objects,
+        b"object-group network G\n network-object host 10.0.0.9\n",
+    );
+    assert_members(&rt, &objects, b"G", 2);
+    assert_refusals(&rt, &mut objects);
+    let copy = copy_of(&rt, &objects);
+    assert_taken(
+        &rt,
+        &mut objects,
+        b"object network A\n range 10.0.0.1 10.0.0.6\n",
+    );
+    assert_prefixes(&rt, &objects, b"G", 5);
+    assert_prefixes(&rt, &copy, b"G", 2);
+    assert_user(&rt, &objects, b"A", b"B");
+    assert_taken(
+        &rt,
+        &mut objects,
+        b"object-group network B\n no network-object object A\nobject-group network G\n no network-object object A\n",
+    );
+    assert_free(&rt, &objects, b"A");
+    assert_user(&rt, &copy, b"A", b"B");
+}
+
+/// Asserts that a block is refused at a line that isn't built.
+fn assert_not_built(rt: &(impl Abort + AllocGlobal), objects: &mut Objects, line: u32, text: &[u8])
+    requires { length text.now < 2 ^ 31 }
+{
+    assert_refused(rt, objects, ObjectFault::NotBuilt { line }, text);
+}
+
+#[test]
+fn a_nat_line_is_refused_in_the_order_of_lines(rt: HostRuntime) {
+    let after_another = ObjectFault::Bad { line: 2, column: 7 };
+    let mut objects = table(&rt, b"object network A\n host 10.0.0.1\n");
+    assert_not_built(
+        &rt,
+        &mut objects,
+        3,
+        b"object network A\n host 10.0.0.2\n nat (any,any) static 10.0.0.9\n",
+    );
+    assert_not_built(&rt, &mut objects, 2, b"object network A\n no nat x\n");
+    assert_refused(
+        &rt,
+        &mut objects,
+        after_another,
+        b"object network A\n host x\n nat dynamic interface\n",
+    );
+    assert_not_built(
+        &rt,
+        &mut objects,
+        2,
+        b"object network A\n nat dynamic interface\n host x\n",
+    );
+    assert_not_built(
+        &rt,
+        &mut objects,
+        3,
+        b"object network B\n description x\n nat dynamic interface\n",
+    );
+    assert_kind(&rt, &objects, b"B", None);
+    assert_hosts(&rt, &objects, b"A", &[1]);
+}
+
+#[test]
+fn a_group_takes_65536_members(rt: HostRuntime) {
+    let mut objects = hosts(&rt, 0);
+    assert_members(&rt, &objects, b"G", 65536);
+    assert_network(&rt, &objects, b"G", 65536);
+    assert_refused(
+        &rt,
+        &mut objects,
+        ObjectFault::TooMany,
+        b"object-group network G\n network-object host 10.1.0.0\n",
+    );
+}
+
+#[test]
+fn members_are_taken_out_one_by_one(rt: HostRuntime) {
+    let objects = hosts(&rt, 65535);
+    let members = network_of(&rt, &objects, b"G");
+    assert_eq!(rt; members.len(), 1);
+    assert_eq!(rt; members.as_slice().first().copied(), Some(host(0xffff)));
+}
+
+/// A group of 65,528 services and one over it that has one more.
+fn ports(rt: &(impl Abort + AllocGlobal)) -> Objects {
+    let mut text = Vec::new(rt.alloc());
+    push(rt, &mut text, b"object-group service G\n");
     push_repeated(
+        rt,
         &mut text,
         1..8192,
         b" service-object tcp-udp source neq ",
         b" destination neq 9\n",
-    )?;
-    push_bytes(
+    );
+    push(
+        rt,
         &mut text,
         b"object-group service O\n service-object 47\n group-object G\n",
-    )?;
-    if text.len() > 8_000_000 {
-        return Err(Fail::from("long"));
-    }
-    let mut objects = table(rt.alloc(), text.as_slice())?;
-    assert_eq!(rt; objects.service_count(&name(b"G")?), 65528);
-    assert_eq!(rt; objects.service_count(&name(b"O")?), 65529);
-    let inner = take(
-        rt.alloc(),
+    );
+    long_table(rt, text.as_slice())
+}
+
+#[test]
+fn a_group_within_a_group_counts_there_too(rt: HostRuntime) {
+    let mut objects = ports(&rt);
+    assert_services(&rt, &objects, b"G", 65528);
+    assert_services(&rt, &objects, b"O", 65529);
+    assert_refused(
+        &rt,
         &mut objects,
+        ObjectFault::TooMany,
         b"object-group service G\n service-object tcp-udp source neq 9000 destination neq 9\n",
-    )?;
-    assert_eq!(rt; inner, Err(ObjectFault::TooMany));
-    assert_eq!(rt; objects.service_count(&name(b"G")?), 65528);
-    assert_eq!(rt; objects.service_count(&name(b"O")?), 65529);
-    let fits = take(
-        rt.alloc(),
+    );
+    assert_services(&rt, &objects, b"G", 65528);
+    assert_services(&rt, &objects, b"O", 65529);
+    assert_taken(
+        &rt,
         &mut objects,
         b"object-group service G\n service-object tcp destination range 1 9\n",
-    )?;
-    assert_eq!(rt; fits, Ok(()));
-    assert_eq!(rt; objects.service_count(&name(b"O")?), 65530);
-    Ok(())
-}
-
-/// Two groups of a level that each have both groups of the level below.
-fn push_level(text: &mut Vec<u8>, level: u32) -> Result<(), Fail> {
-    for side in [b"a", b"b"] {
-        push_bytes(text, b"object-group network ")?;
-        push_bytes(text, side.as_slice())?;
-        push_number(text, u64::from(level))?;
-        for below in [b"a", b"b"] {
-            push_bytes(text, b"\n group-object ")?;
-            push_bytes(text, below.as_slice())?;
-            push_number(text, u64::from(level.saturating_sub(1)))?;
-        }
-        push_bytes(text, b"\n")?;
-    }
-    Ok(())
-}
-
-/// Levels of groups up to one, over two groups that begin with this.
-fn levels(alloc: Global, top: u32, bottom: &[u8]) -> Result<Objects, Fail> {
-    let mut text = Vec::new(alloc);
-    for side in [b"a0", b"b0"] {
-        push_bytes(&mut text, b"object-group network ")?;
-        push_bytes(&mut text, side.as_slice())?;
-        push_bytes(&mut text, bottom)?;
-        push_bytes(&mut text, b"\n")?;
-    }
-    for level in 1..=top {
-        push_level(&mut text, level)?;
-    }
-    if text.len() > 8_000_000 {
-        return Err(Fail::from("long"));
-    }
-    table(alloc, text.as_slice())
+    );
+    assert_services(&rt, &objects, b"O", 65530);
 }
 
 #[test]
-fn groups_that_are_reached_in_many_ways_are_visited_once(rt: HostRuntime) -> Result<(), Fail> {
-    let mut empty = levels(rt.alloc(), 30, b"")?;
-    assert_eq!(rt; empty.member_count(&name(b"a30")?), 0);
-    assert_eq!(rt;
-        empty
-            .expand_network(&name(b"a30")?)
-            .map_err(|_| "not expanded")?
-            .len(),
-        0
-    );
-    let cycle = take(
-        rt.alloc(),
+fn groups_that_are_reached_in_many_ways_are_visited_once(rt: HostRuntime) {
+    let mut empty = levels(&rt, 30, b"");
+    assert_members(&rt, &empty, b"a30", 0);
+    assert_network(&rt, &empty, b"a30", 0);
+    assert_refused(
+        &rt,
         &mut empty,
+        ObjectFault::Cycle { line: 2 },
         b"object-group network a0\n group-object b30\n",
-    )?;
-    assert_eq!(rt; cycle, Err(ObjectFault::Cycle { line: 2 }));
-    let many = take(
-        rt.alloc(),
-        &mut empty,
-        b"object-group network a0\n network-object host 10.0.0.1\n",
-    )?;
-    assert_eq!(rt; many, Err(ObjectFault::TooMany));
-    let mut full = levels(rt.alloc(), 16, b"\n network-object host 10.0.0.1")?;
-    assert_eq!(rt; full.member_count(&name(b"a16")?), 65536);
-    assert_eq!(rt;
-        full.expand_network(&name(b"b16")?)
-            .map_err(|_| "not expanded")?
-            .len(),
-        65536
     );
-    let above = take(
-        rt.alloc(),
+    assert_refused(
+        &rt,
+        &mut empty,
+        ObjectFault::TooMany,
+        b"object-group network a0\n network-object host 10.0.0.1\n",
+    );
+    let mut full = levels(&rt, 16, b"\n network-object host 10.0.0.1");
+    assert_members(&rt, &full, b"a16", 65536);
+    assert_network(&rt, &full, b"b16", 65536);
+    assert_refused(
+        &rt,
         &mut full,
+        ObjectFault::TooMany,
         b"object-group network x\n group-object a16\n group-object a0\n",
-    )?;
-    assert_eq!(rt; above, Err(ObjectFault::TooMany));
-    assert_eq!(rt; full.kind_of(&name(b"x")?), None);
-    Ok(())
-}
-
-/// Whether a name stands for the hosts 10.0.0.n of these numbers, in their order.
-fn has_hosts(alloc: Global, objects: &Objects, group: &[u8], numbers: &[u8]) -> Result<bool, Fail> {
-    let members = objects.members(alloc, &name(group)?)?;
-    let mut hosts = Vec::new(alloc);
-    for number in numbers {
-        hosts.push(Member::Host(Addr(0x0a00_0000 | u32::from(*number))))?;
-    }
-    Ok(members.as_slice() == hosts.as_slice())
+    );
+    assert_kind(&rt, &full, b"x", None);
 }
 
 #[test]
-fn a_group_grows_block_by_block_and_a_copy_stays(rt: HostRuntime) -> Result<(), Fail> {
+fn a_group_grows_block_by_block_and_a_copy_stays(rt: HostRuntime) {
     let mut objects = table(
-        rt.alloc(),
+        &rt,
         b"object network A\n host 10.0.0.1\nobject-group network G\n network-object host 10.0.0.9\nobject-group network O\n group-object G\n network-object host 10.0.0.3\n",
-    )?;
-    let first = take(
-        rt.alloc(),
+    );
+    assert_taken(
+        &rt,
         &mut objects,
         b"object-group network G\n network-object host 10.0.0.8\n network-object object A\n",
-    )?;
-    assert_eq!(rt; first, Ok(()));
-    let copy = objects.copy()?;
-    let second = take(
-        rt.alloc(),
+    );
+    let copy = copy_of(&rt, &objects);
+    assert_taken(
+        &rt,
         &mut objects,
         b"object-group network G\n network-object host 10.0.0.7\nobject-group network G\n network-object host 10.0.0.6\n",
-    )?;
-    assert_eq!(rt; second, Ok(()));
-    assert!(rt; has_hosts(rt.alloc(), &objects, b"O", &[9, 8, 1, 7, 6, 3])?);
-    assert!(rt; has_hosts(rt.alloc(), &copy, b"O", &[9, 8, 1, 3])?);
-    assert_eq!(rt; objects.member_count(&name(b"G")?), 5);
-    assert_eq!(rt; objects.prefix_total(&name(b"O")?), 6);
-    assert_eq!(rt; copy.member_count(&name(b"G")?), 3);
-    assert_eq!(rt; copy.prefix_total(&name(b"O")?), 4);
-    assert!(rt; objects.is_used(&name(b"A")?));
-    let gone = take(
-        rt.alloc(),
+    );
+    assert_hosts(&rt, &objects, b"O", &[9, 8, 1, 7, 6, 3]);
+    assert_hosts(&rt, &copy, b"O", &[9, 8, 1, 3]);
+    assert_members(&rt, &objects, b"G", 5);
+    assert_prefixes(&rt, &objects, b"O", 6);
+    assert_members(&rt, &copy, b"G", 3);
+    assert_prefixes(&rt, &copy, b"O", 4);
+    assert_user(&rt, &objects, b"A", b"G");
+    assert_taken(
+        &rt,
         &mut objects,
         b"object-group network G\n no network-object object A\n",
-    )?;
-    assert_eq!(rt; gone, Ok(()));
-    assert!(rt; !objects.is_used(&name(b"A")?));
-    assert!(rt; copy.is_used(&name(b"A")?));
-    assert!(rt; has_hosts(rt.alloc(), &objects, b"G", &[9, 8, 7, 6])?);
-    Ok(())
+    );
+    assert_free(&rt, &objects, b"A");
+    assert_user(&rt, &copy, b"A", b"G");
+    assert_hosts(&rt, &objects, b"G", &[9, 8, 7, 6]);
 }
 
 #[test]
-fn a_refused_growth_leaves_all(rt: HostRuntime) -> Result<(), Fail> {
-    let mut objects = levels(rt.alloc(), 16, b"\n network-object host 10.0.0.1")?;
-    let empty = take(rt.alloc(), &mut objects, b"object-group network x\n")?;
-    assert_eq!(rt; empty, Ok(()));
-    let copy = objects.copy()?;
-    let many = take(
-        rt.alloc(),
+fn a_refused_growth_leaves_all(rt: HostRuntime) {
+    let mut objects = levels(&rt, 16, b"\n network-object host 10.0.0.1");
+    assert_taken(&rt, &mut objects, b"object-group network x\n");
+    let copy = copy_of(&rt, &objects);
+    assert_refused(
+        &rt,
         &mut objects,
+        ObjectFault::TooMany,
         b"object-group network a0\n group-object x\n network-object host 10.0.0.2\n",
-    )?;
-    assert_eq!(rt; many, Err(ObjectFault::TooMany));
-    assert!(rt; !objects.is_used(&name(b"x")?));
-    assert!(rt; has_hosts(rt.alloc(), &objects, b"a0", &[1])?);
-    assert_eq!(rt; objects.member_count(&name(b"a16")?), 65536);
-    let fits = take(
-        rt.alloc(),
+    );
+    assert_free(&rt, &objects, b"x");
+    assert_hosts(&rt, &objects, b"a0", &[1]);
+    assert_members(&rt, &objects, b"a16", 65536);
+    assert_taken(
+        &rt,
         &mut objects,
         b"object-group network a0\n group-object x\n",
-    )?;
-    assert_eq!(rt; fits, Ok(()));
-    let cycle = take(
-        rt.alloc(),
+    );
+    assert_refused(
+        &rt,
         &mut objects,
+        ObjectFault::Cycle { line: 3 },
         b"object-group network x\n network-object host 10.0.0.2\n group-object b16\n",
-    )?;
-    assert_eq!(rt; cycle, Err(ObjectFault::Cycle { line: 3 }));
-    assert!(rt; objects.is_used(&name(b"x")?));
-    assert!(rt; !copy.is_used(&name(b"x")?));
-    assert!(rt; has_hosts(rt.alloc(), &objects, b"x", &[])?);
-    assert_eq!(rt; objects.member_count(&name(b"b16")?), 65536);
-    Ok(())
+    );
+    assert_user(&rt, &objects, b"x", b"a0");
+    assert_free(&rt, &copy, b"x");
+    assert_hosts(&rt, &objects, b"x", &[]);
+    assert_members(&rt, &objects, b"b16", 65536);
 }
 
 #[test]
-fn a_member_that_comes_back_is_the_last(rt: HostRuntime) -> Result<(), Fail> {
+fn a_member_that_comes_back_is_the_last(rt: HostRuntime) {
     let mut objects = table(
-        rt.alloc(),
+        &rt,
         b"object-group network G\n network-object host 10.0.0.1\n network-object host 10.0.0.2\n network-object host 10.0.0.3\n",
-    )?;
-    let back = take(
-        rt.alloc(),
+    );
+    assert_taken(
+        &rt,
         &mut objects,
         b"object-group network G\n no network-object host 10.0.0.1\n network-object host 10.0.0.4\n network-object host 10.0.0.1\n",
-    )?;
-    assert_eq!(rt; back, Ok(()));
-    assert!(rt; has_hosts(rt.alloc(), &objects, b"G", &[2, 3, 4, 1])?);
-    let gone = take(
-        rt.alloc(),
+    );
+    assert_hosts(&rt, &objects, b"G", &[2, 3, 4, 1]);
+    assert_taken(
+        &rt,
         &mut objects,
         b"object-group network G\n no network-object host 10.0.0.3\n network-object host 10.0.0.3\n no network-object host 10.0.0.3\n",
-    )?;
-    assert_eq!(rt; gone, Ok(()));
-    assert!(rt; has_hosts(rt.alloc(), &objects, b"G", &[2, 4, 1])?);
-    let twice = take(
-        rt.alloc(),
+    );
+    assert_hosts(&rt, &objects, b"G", &[2, 4, 1]);
+    assert_taken(
+        &rt,
         &mut objects,
         b"object-group network G\n network-object host 10.0.0.5\n network-object host 10.0.0.6\n no network-object host 10.0.0.5\n network-object host 10.0.0.5\n",
-    )?;
-    assert_eq!(rt; twice, Ok(()));
-    assert!(rt; has_hosts(rt.alloc(), &objects, b"G", &[2, 4, 1, 6, 5])?);
-    Ok(())
+    );
+    assert_hosts(&rt, &objects, b"G", &[2, 4, 1, 6, 5]);
 }
 
 #[test]
-fn a_table_takes_16384_names(rt: HostRuntime) -> Result<(), Fail> {
+fn a_table_takes_16384_names(rt: HostRuntime) {
     let mut text = Vec::new(rt.alloc());
     push_repeated(
+        &rt,
         &mut text,
         0..16384,
         b"object-group network N",
         b"\n network-object host 10.0.0.1\n",
-    )?;
-    if text.len() > 8_000_000 {
-        return Err(Fail::from("long"));
-    }
-    let mut objects = table(rt.alloc(), text.as_slice())?;
-    let more = take(rt.alloc(), &mut objects, b"object-group network X\n")?;
-    assert_eq!(rt; more, Err(ObjectFault::TooMany));
+    );
+    let mut objects = long_table(&rt, text.as_slice());
+    assert_refused(
+        &rt,
+        &mut objects,
+        ObjectFault::TooMany,
+        b"object-group network X\n",
+    );
     assert_eq!(rt; objects.len(), 16384);
-    assert!(rt; !objects.is_used(&name(b"N7")?));
-    let unused = name(b"X")?;
-    if objects.group_using(&unused).is_none() {
-        assert!(rt; !objects.remove(&unused));
+    assert_free(&rt, &objects, b"N7");
+    assert!(rt; !removed(&rt, &mut objects, b"X"));
+}
+
+/// The odd numbers below 2,000, as hosts in their order.
+fn odd_hosts(rt: &(impl Abort + AllocGlobal)) -> Vec<Member> {
+    let mut hosts = Vec::new(rt.alloc());
+    for number in 0..2000 {
+        if number % 2 == 1 {
+            hosts.push(host(number)).expect(rt, "memory for a host");
+        }
     }
-    Ok(())
+    hosts
+}
+
+#[test]
+fn what_many_blocks_leave_of_a_group_stays_in_order(rt: HostRuntime) {
+    let mut text = Vec::new(rt.alloc());
+    push(&rt, &mut text, b"object-group network G\n");
+    push_hosts(&rt, &mut text, b" network-object host 10.0.", 0, 2000);
+    for half in 0..1000u32 {
+        push_host(
+            &rt,
+            &mut text,
+            b"object-group network G\n no network-object host 10.0.",
+            half.saturating_mul(2),
+        );
+    }
+    let objects = long_table(&rt, text.as_slice());
+    let members = members_of(&rt, &objects, b"G");
+    assert_members(&rt, &objects, b"G", 1000);
+    assert_eq!(rt; members.as_slice().first().copied(), Some(host(1)));
+    assert_eq!(rt; members.as_slice().last().copied(), Some(host(1999)));
+    assert!(rt; members.as_slice() == odd_hosts(&rt).as_slice());
+}
+
+#[test]
+fn a_member_that_is_there_keeps_its_place(rt: HostRuntime) {
+    let mut objects = table(
+        &rt,
+        b"object network A\n host 10.0.0.2\nobject-group network I\n network-object host 10.0.0.3\nobject-group network G\n network-object host 10.0.0.1\n network-object object A\n group-object I\n network-object host 10.0.0.4\n",
+    );
+    assert_taken(
+        &rt,
+        &mut objects,
+        b"object-group network G\n network-object host 10.0.0.5\n group-object I\n network-object host 10.0.0.1\n network-object object A\n network-object host 10.0.0.5\n",
+    );
+    assert_hosts(&rt, &objects, b"G", &[1, 2, 3, 4, 5]);
+    // A member that is added where it is, and then taken out, is gone, and is the last where it comes back.
+    assert_taken(
+        &rt,
+        &mut objects,
+        b"object-group network G\n network-object object A\n no network-object object A\n network-object host 10.0.0.1\n network-object object A\n",
+    );
+    assert_hosts(&rt, &objects, b"G", &[1, 3, 4, 5, 2]);
+    assert_taken(
+        &rt,
+        &mut objects,
+        b"object-group network G\n no group-object I\nobject-group network G\n group-object I\n",
+    );
+    assert_hosts(&rt, &objects, b"G", &[1, 4, 5, 2, 3]);
+}
+
+/// Asserts how many members I, O, P and Q have.
+fn assert_counts(rt: &impl Abort, objects: &Objects, counts: [u64; 4]) {
+    let [i, o, p, q] = counts;
+    assert_members(rt, objects, b"I", i);
+    assert_members(rt, objects, b"O", o);
+    assert_members(rt, objects, b"P", p);
+    assert_members(rt, objects, b"Q", q);
+}
+
+#[test]
+fn a_change_of_an_inner_group_counts_in_all_above(rt: HostRuntime) {
+    // O has I and J, P has O and a host, and Q has O and I, so it has the members of I twice.
+    let mut objects = table(
+        &rt,
+        b"object-group network I\n network-object host 10.0.0.1\nobject-group network J\n network-object host 10.0.0.2\n network-object host 10.0.0.3\nobject-group network O\n group-object I\n group-object J\nobject-group network P\n group-object O\n network-object host 10.0.0.9\nobject-group network Q\n group-object O\n group-object I\n",
+    );
+    assert_counts(&rt, &objects, [1, 3, 4, 4]);
+    assert_taken(
+        &rt,
+        &mut objects,
+        b"object-group network I\n network-object host 10.0.0.7\n",
+    );
+    assert_counts(&rt, &objects, [2, 4, 5, 6]);
+    assert_members(&rt, &objects, b"J", 2);
+    assert_hosts(&rt, &objects, b"P", &[1, 7, 2, 3, 9]);
+    assert_hosts(&rt, &objects, b"Q", &[1, 7, 2, 3, 1, 7]);
+    assert_taken(
+        &rt,
+        &mut objects,
+        b"object-group network I\n no network-object host 10.0.0.1\nobject-group network O\n group-object I\n",
+    );
+    assert_counts(&rt, &objects, [1, 3, 4, 4]);
+    assert_members(&rt, &objects, b"J", 2);
+    assert_hosts(&rt, &objects, b"P", &[7, 2, 3, 9]);
+    assert_prefixes(&rt, &objects, b"Q", 4);
+}
+
+#[test]
+fn a_name_is_free_once_no_group_names_it(rt: HostRuntime) {
+    let mut objects = table(
+        &rt,
+        b"object network A\n host 10.0.0.1\nobject-group network G\n network-object host 10.0.0.9\n network-object object A\nobject-group network H\n network-object object A\n group-object G\n",
+    );
+    assert_user(&rt, &objects, b"A", b"G");
+    assert_taken(
+        &rt,
+        &mut objects,
+        b"object-group network G\n no network-object object A\n",
+    );
+    assert_user(&rt, &objects, b"A", b"H");
+    // What a block takes out and adds again is in use as before.
+    assert_taken(
+        &rt,
+        &mut objects,
+        b"object-group network H\n no network-object object A\n network-object object A\n",
+    );
+    assert_user(&rt, &objects, b"A", b"H");
+    assert_taken(
+        &rt,
+        &mut objects,
+        b"object-group network H\n no network-object object A\n",
+    );
+    assert_free(&rt, &objects, b"A");
+    assert_user(&rt, &objects, b"G", b"H");
+    assert!(rt; removed(&rt, &mut objects, b"A"));
+    assert!(rt; removed(&rt, &mut objects, b"H"));
+    assert_free(&rt, &objects, b"G");
+    assert_eq!(rt; objects.len(), 1);
 }

@@ -1,45 +1,21 @@
 //! New labels and totals of the names that reach a name whose members have changed.
-ghost use Rattle.std.specs.Prelude.{◌≡◌, ℕ, ◌+◌, ◌≤◌, ◌<◌, ◌&&◌, nat_le, List, [], true, false, cond, Some, IfSome, IfOk, IfErr, OnOk};
+ghost use Rattle.std.specs.Prelude.{◌≡◌, ℕ, ◌+◌, ◌≤◌, ◌<◌, ◌&&◌, nat_le, List, [], true, false, cond, Some, IfOk, IfErr, OnOk};
+ghost use Rattle.std.specs.List.Sorted.{IsStrictlySortedBy};
+ghost use Rattle.std.specs.Ordering.{nat_cmp};
+ghost use Rattle.std.specs.Cmp.Lexicographic.{slice_cmp};
 ghost use Rattle.asa_objects.specs.declared.faults.ObjectFault.TheVariants as fault;
 ghost use Rattle.asa_objects.specs.Ranks as spec;
-ghost use Rattle.asa_objects.specs.Tables.{Table, group_of, same_name};
+ghost use Rattle.asa_objects.specs.Tables.{Table, items_of, same_name};
 ghost use Rattle.asa_objects.specs.Totalling as total;
 
+use crate::changing::Kept;
 use crate::faults::ObjectFault;
 use crate::ranking::{Rank, Totals, totals_of};
-use crate::valuing::{Stated, totals_in};
+use crate::valuing::Stated;
 use asa_base::Name;
-use asa_members::{GroupKind, Item};
+use asa_members::Item;
 use std::alloc::Global;
-use std::collections::BTreeMap;
-
-/// The totals of a name: the new ones where it has such, else the old ones; nothing where it has none.
-fn totals_now(ranks: &BTreeMap<Name, Rank>, new: &BTreeMap<Name, Rank>, name: &Name) -> Totals
-    ensures { result ≡ total.totals_now new.now.entries ranks.now.entries name.now }
-{
-    match new.get(name) {
-        Some(rank) => rank.totals,
-        None => match ranks.get(name) {
-            Some(rank) => rank.totals,
-            None => Totals::none(),
-        },
-    }
-}
-
-/// The totals of names together.
-fn ref_totals(
-    ranks: &BTreeMap<Name, Rank>,
-    new: &BTreeMap<Name, Rank>,
-    names: &[Name],
-) -> Option<Totals>
-    ensures { IfSome result (λ t. t ≡ total.ref_totals new.now.entries ranks.now.entries names.now) }
-{
-    let mut totals = Totals::none();
-    for name in names {
-        totals = totals.plus(totals_now(ranks, new, name))?;
-    }
-    Some(totals)
-}
+use std::collections::{BTreeMap, BTreeSet};
 
 /// Whether a name with these totals is within the limit.
 fn is_small(totals: Totals) -> bool
@@ -48,74 +24,10 @@ fn is_small(totals: Totals) -> bool
     totals.members <= 65536 && totals.services <= 65536
 }
 
-/// What the members of a value state and what the names that they refer to have.
-fn sums_of(
-    ranks: &BTreeMap<Name, Rank>,
-    new: &BTreeMap<Name, Rank>,
-    stated: &Stated,
-) -> Option<Totals>
-    ensures { IfSome result (λ t. t ≡ spec.both_totals (spec.totals_in (group_of stated.now.block) stated.now.items) (total.ref_totals new.now.entries ranks.now.entries (spec.refs_in stated.now.items))) }
-{
-    let refs = ref_totals(ranks, new, stated.refs())?;
-    stated.own().plus(refs)
-}
-
-/// The totals of a value from those that the names which its members refer to have now.
-pub(crate) fn totals_with_refs(
-    alloc: Global,
-    ranks: &BTreeMap<Name, Rank>,
-    stated: &Stated,
-) -> Option<Totals>
-    ensures { IfSome result (λ t. t ≡ spec.both_totals (spec.totals_in (group_of stated.now.block) stated.now.items) (total.ref_totals [] ranks.now.entries (spec.refs_in stated.now.items))) }
-{
-    let none = BTreeMap::new(alloc);
-    sums_of(ranks, &none, stated)
-}
-
-/// The totals of a name with further members, which refer to these names.
-pub(crate) fn totals_grown(
-    alloc: Global,
-    ranks: &BTreeMap<Name, Rank>,
-    name: &Name,
-    group: GroupKind,
-    added: &[Item],
-    refs: &[Name],
-) -> Option<Totals>
-    ensures { IfSome result (λ t. t ≡ spec.both_totals (total.totals_in_rank (spec.rank_of ranks.now.entries name.now)) (spec.both_totals (spec.totals_in group added.now) (total.ref_totals [] ranks.now.entries refs.now))) }
-{
-    let none = BTreeMap::new(alloc);
-    let own = totals_in(group, added)?;
-    let more = own.plus(ref_totals(ranks, &none, refs)?)?;
-    totals_of(ranks, name).plus(more)
-}
-
 /// These totals, where they are within the limit.
 fn limited(totals: Totals) -> Result<Totals, ObjectFault>
     ensures { total.Limits totals result }
 {
-    if is_small(totals) {
-        Ok(totals)
-    } else {
-        Err(ObjectFault::TooMany)
-    }
-}
-
-/// The totals of a name from those of the names that its members refer to. A total that passes its type's end counts as
-/// want of memory.
-fn sums(
-    values: &BTreeMap<Name, Stated>,
-    ranks: &BTreeMap<Name, Rank>,
-    new: &BTreeMap<Name, Rank>,
-    name: &Name,
-) -> Result<Totals, ObjectFault>
-    ensures { total.Sums values.now.entries new.now.entries ranks.now.entries name.now result }
-{
-    let Some(stated) = values.get(name) else {
-        return Ok(Totals::none());
-    };
-    let Some(totals) = sums_of(ranks, new, stated) else {
-        return Err(ObjectFault::NoMemory);
-    };
     if is_small(totals) {
         Ok(totals)
     } else {
@@ -130,22 +42,143 @@ fn is_same(a: &Name, b: &Name) -> bool
     a.cmp(b).is_eq()
 }
 
-/// The new totals of a name: those that are told, where it is the name whose value changes.
+/// The running totals of a name, or else those that are kept of it.
+fn sum_now(ranks: &BTreeMap<Name, Rank>, sums: &BTreeMap<Name, Totals>, name: &Name) -> Totals
+    ensures { result ≡ total.sum_now sums.now.entries ranks.now.entries name.now }
+{
+    match sums.get(name) {
+        Some(totals) => *totals,
+        None => totals_of(ranks, name),
+    }
+}
+
+/// The new totals of a name: those that are told, where it is the name whose value changes, or else its running totals.
 fn totals_for(
-    values: &BTreeMap<Name, Stated>,
     ranks: &BTreeMap<Name, Rank>,
-    new: &BTreeMap<Name, Rank>,
+    sums: &BTreeMap<Name, Totals>,
     changed: &Name,
     told: Totals,
     name: &Name,
 ) -> Result<Totals, ObjectFault>
     ensures told { same_name changed.now name.now ≡ true → total.Limits told result }
-    ensures other { same_name changed.now name.now ≡ false → total.Sums values.now.entries new.now.entries ranks.now.entries name.now result }
+    ensures other { same_name changed.now name.now ≡ false → total.Limits (total.sum_now sums.now.entries ranks.now.entries name.now) result }
 {
-    if is_same(changed, name) {
-        return limited(told);
+    let totals = if is_same(changed, name) {
+        told
+    } else {
+        sum_now(ranks, sums, name)
+    };
+    limited(totals)
+}
+
+/// 1 for a test that holds.
+fn one_if(holds: bool) -> u64
+    ensures { result ≡ cond holds 1 0 }
+{
+    if holds { 1 } else { 0 }
+}
+
+/// How often the members of a value refer to a name: an object and a group of one name may both be there.
+fn times(stated: &Stated, name: &Name) -> u64
+    ensures { result ≡ total.times name.now stated.now.items }
+{
+    let as_object = stated.has(&Item::Object(name.copy()));
+    let as_group = stated.has(&Item::Group(name.copy()));
+    one_if(as_object) + one_if(as_group)
+}
+
+/// How often the members of a user refer to a name.
+fn times_at(values: &BTreeMap<Name, Stated>, user: &Name, name: &Name) -> u64
+    ensures { result ≡ total.times name.now (items_of values.now.entries user.now) }
+{
+    match values.get(user) {
+        Some(stated) => times(stated, name),
+        None => 0,
     }
-    sums(values, ranks, new, name)
+}
+
+/// Puts the running totals of a name.
+fn put_sum(
+    sums: &mut BTreeMap<Name, Totals>,
+    name: &Name,
+    totals: Totals,
+) -> Result<(), ObjectFault>
+    ensures ok { OnOk result ((q : List ℕ) → total.sum_of sums.new.entries q ≡ cond (same_name name.now q) (Some totals) (total.sum_of sums.old.entries q)) }
+    ensures err { IfErr result (λ f. f ≡ fault.NoMemory) }
+{
+    match sums.insert(name.copy(), totals) {
+        Ok(_) => Ok(()),
+        Err(_) => Err(ObjectFault::NoMemory),
+    }
+}
+
+/// Tells a user of a name that its old totals became new ones. A total that passes its type's end counts as want of memory.
+fn pass_to(
+    values: &BTreeMap<Name, Stated>,
+    ranks: &BTreeMap<Name, Rank>,
+    sums: &mut BTreeMap<Name, Totals>,
+    name: &Name,
+    old: Totals,
+    new: Totals,
+    user: &Name,
+) -> Result<(), ObjectFault>
+    ensures ok { OnOk result ((q : List ℕ) → total.AreMoved (cond (same_name user.now q) (total.times name.now (items_of values.now.entries q)) 0) old new (total.sum_now sums.old.entries ranks.now.entries q) (total.sum_now sums.new.entries ranks.now.entries q)) }
+    ensures err { IfErr result (λ f. f ≡ fault.NoMemory) }
+{
+    let count = times_at(values, user, name);
+    match sum_now(ranks, sums, user).moved(count, old, new) {
+        Some(totals) => put_sum(sums, user, totals),
+        None => Err(ObjectFault::NoMemory),
+    }
+}
+
+/// Tells each of the users of a name that its old totals became new ones.
+fn pass_to_all(
+    values: &BTreeMap<Name, Stated>,
+    ranks: &BTreeMap<Name, Rank>,
+    sums: &mut BTreeMap<Name, Totals>,
+    name: &Name,
+    old: Totals,
+    new: Totals,
+    users: &BTreeSet<Name>,
+) -> Result<(), ObjectFault>
+    ensures ok { OnOk result ((q : List ℕ) → total.AreMoved (total.times_among values.now.entries name.now users.now.keys q) old new (total.sum_now sums.old.entries ranks.now.entries q) (total.sum_now sums.new.entries ranks.now.entries q)) }
+    ensures ordered { IsStrictlySortedBy (slice_cmp nat_cmp) users.now.keys }
+    ensures err { IfErr result (λ f. f ≡ fault.NoMemory) }
+{
+    for user in users {
+        pass_to(values, ranks, sums, name, old, new, user)?;
+    }
+    Ok(())
+}
+
+/// Whether totals are the same.
+fn are_same(a: Totals, b: Totals) -> bool
+    ensures { result ≡ true → a ≡ b }
+{
+    a.members == b.members && a.prefixes == b.prefixes && a.services == b.services
+}
+
+/// Tells the users of a name its new totals.
+fn pass_on(
+    values: &BTreeMap<Name, Stated>,
+    kept: &Kept,
+    sums: &mut BTreeMap<Name, Totals>,
+    name: &Name,
+    new: Totals,
+) -> Result<(), ObjectFault>
+    requires { spec.IsSound values.now.entries kept.now.ranks.entries kept.now.uses.entries kept.now.stamp }
+    ensures ok { OnOk result (total.ArePassed values.now.entries kept.now.ranks.entries name.now (total.totals_in_rank (spec.rank_of kept.now.ranks.entries name.now)) new sums.old.entries sums.new.entries) }
+    ensures err { IfErr result (λ f. f ≡ fault.NoMemory) }
+{
+    let old = totals_of(&kept.ranks, name);
+    if are_same(old, new) {
+        return Ok(());
+    }
+    match kept.uses.get(name) {
+        Some(users) => pass_to_all(values, &kept.ranks, sums, name, old, new, users),
+        None => Ok(()),
+    }
 }
 
 /// New ranks of names.
@@ -157,23 +190,26 @@ pub(crate) struct Renewed {
     pub(crate) label: u64,
 }
 
-/// New ranks of names, in their order, each from those that are new already; the totals of the name whose value changes are
-/// told. A name with too many members is TooMany. Labels that come to their type's end count as want of memory.
+/// New ranks of names, in their order. The totals of the name whose value changes are told; each name that gets other totals
+/// tells the difference to those that refer to it. A name with too many members is TooMany. Labels that come to their type's
+/// end count as want of memory.
 pub(crate) fn renew(
     alloc: Global,
     values: &BTreeMap<Name, Stated>,
-    ranks: &BTreeMap<Name, Rank>,
-    stamp: u64,
+    kept: &Kept,
     changed: &Name,
     told: Totals,
     names: &[Name],
 ) -> Result<Renewed, ObjectFault>
-    ensures { (after : Table) → total.IsTold values.now.entries after ranks.now.entries changed.now told names.now → total.Renews after ranks.now.entries stamp names.now result }
+    requires { spec.IsSound values.now.entries kept.now.ranks.entries kept.now.uses.entries kept.now.stamp }
+    ensures { (after : Table) → total.IsTold values.now.entries after kept.now.ranks.entries changed.now told names.now → total.Renews after kept.now.ranks.entries kept.now.stamp names.now result }
 {
     let mut new = BTreeMap::new(alloc);
-    let mut label = stamp;
+    let mut sums = BTreeMap::new(alloc);
+    let mut label = kept.stamp;
     for name in names {
-        let totals = totals_for(values, ranks, &new, changed, told, name)?;
+        let totals = totals_for(&kept.ranks, &sums, changed, told, name)?;
+        pass_on(values, kept, &mut sums, name, totals)?;
         put_rank(&mut new, name, Rank { label, totals })?;
         label = next_label(label)?;
     }

@@ -2,11 +2,15 @@
 ghost use Rattle.std.specs.Prelude.{◌≡◌, ℕ, true, false, List, ◌&&◌, ◌||◌, not, OnOk, OnErr, IfOk, IfNone, IfSome};
 ghost use Rattle.std.specs.Ordering.{is_gt, nat_cmp};
 ghost use Rattle.std.specs.Cmp.Lexicographic.{slice_cmp};
-ghost use Rattle.asa_objects.specs.Ranks.{has_name, users_of};
-ghost use Rattle.asa_objects.specs.Tables.{same_name};
+ghost use Rattle.std.specs.Option.{option_to_list};
+ghost use Rattle.asa_objects.specs.Ranks.{has_name, refs_in, users_of};
+ghost use Rattle.asa_objects.specs.Tables.{named, same_name};
 ghost use Rattle.asa_objects.specs.Using.{AreUsed, AreUnused, IsPartUsed, unused_in};
 
+use crate::ordering::OrderedItems;
+use crate::valuing::name_in;
 use asa_base::Name;
+use asa_members::Item;
 use std::alloc::{AllocError, Global};
 use std::collections::{BTreeMap, BTreeSet};
 
@@ -102,33 +106,34 @@ pub(crate) fn add_uses(
     Ok(())
 }
 
-/// Notes that a name no longer refers to another, unless that is kept.
-fn drop_unless_kept(
-    uses: &mut BTreeMap<Name, BTreeSet<Name>>,
-    name: &Name,
-    kept: &BTreeSet<Name>,
-    user: &Name,
-)
-    ensures gone { has_name kept.now.keys name.now ≡ false → (q u : List ℕ) → has_name (users_of uses.new.entries q) u ≡ (has_name (users_of uses.old.entries q) u && not (same_name user.now u && same_name name.now q)) }
-    ensures stays { has_name kept.now.keys name.now ≡ true → (q u : List ℕ) → has_name (users_of uses.new.entries q) u ≡ has_name (users_of uses.old.entries q) u }
-{
-    if kept.contains(name) {
-        return;
-    }
-    drop_use(uses, name, user);
-}
-
-/// Notes that a name no longer refers to others, but for those of them that are kept.
-pub(crate) fn drop_uses(
-    uses: &mut BTreeMap<Name, BTreeSet<Name>>,
-    names: &[Name],
-    kept: &BTreeSet<Name>,
-    user: &Name,
-)
-    ensures { AreUnused uses.old.entries uses.new.entries user.now names.now kept.now.keys }
+/// Notes that a name no longer refers to others.
+pub(crate) fn drop_uses(uses: &mut BTreeMap<Name, BTreeSet<Name>>, names: &[Name], user: &Name)
+    ensures { AreUnused uses.old.entries uses.new.entries user.now names.now }
 {
     for name in names {
-        drop_unless_kept(uses, name, kept, user);
+        drop_use(uses, name, user);
+    }
+}
+
+/// Notes that a name no longer refers to what a member refers to.
+fn drop_ref(uses: &mut BTreeMap<Name, BTreeSet<Name>>, item: &Item, user: &Name)
+    ensures { AreUnused uses.old.entries uses.new.entries user.now (option_to_list (named item.now)) }
+{
+    if let Some(name) = name_in(item) {
+        drop_use(uses, name, user);
+    }
+}
+
+/// Notes that a name no longer refers to what members refer to.
+pub(crate) fn drop_refs(
+    uses: &mut BTreeMap<Name, BTreeSet<Name>>,
+    items: &OrderedItems,
+    user: &Name,
+)
+    ensures { AreUnused uses.old.entries uses.new.entries user.now (refs_in items.now) }
+{
+    for item in items.values() {
+        drop_ref(uses, item, user);
     }
 }
 

@@ -1,12 +1,11 @@
 //! The value of a name: what its block defines, and its members.
-ghost use Rattle.std.specs.Prelude.{◌≡◌, ◌+◌, ◌++◌, IfOk, IfSome, OnOk, OnErr};
+ghost use Rattle.std.specs.Prelude.{◌≡◌, [], IfOk, OnOk, OnErr};
 ghost use Rattle.std.specs.Option.{option_copied};
-ghost use Rattle.asa_objects.specs.Ranks as spec;
-ghost use Rattle.asa_objects.specs.Marks.{AreNew};
-ghost use Rattle.asa_objects.specs.Tables.{group_of, grown, named};
+ghost use Rattle.asa_objects.specs.Defining.{has_item};
+ghost use Rattle.asa_objects.specs.Marks.{AreDistinct, AreNew, changed_entry, standing};
+ghost use Rattle.asa_objects.specs.Tables.{group_of, named};
 
-use crate::drafting::{append, copy_of};
-use crate::ranking::{Totals, own_totals};
+use crate::ordering::OrderedItems;
 use asa_base::Name;
 use asa_members::{BlockKind, GroupKind, Item};
 use indexmap::IndexSet;
@@ -14,29 +13,22 @@ use std::alloc::{AllocError, Global};
 use std::marker::Model;
 use std::sync::Arc;
 
-/// What a name stands for: its members in order, none twice, with what is to be known of them: the names that they refer to
-/// in order, and how much they state by themselves.
+/// What a name stands for: its members in order, none twice.
 #[derive(Debug, Drop)]
 struct Content {
     block: BlockKind,
-    items: IndexSet<Item>,
-    refs: Vec<Name>,
-    own: Totals,
+    items: OrderedItems,
 }
 
 impl Model for Content {
-    ghost use Rattle.std.specs.Prelude.{◌≡◌};
-    ghost use Rattle.asa_objects.specs.Tables.{Entry, group_of};
-    ghost use Rattle.asa_objects.specs.Ranks.{refs_in, totals_in};
+    ghost use Rattle.asa_objects.specs.Tables.{Entry};
 
     ghost Value = { Entry };
 
-    ghost view = { λ c. record { block = c.block; items = c.items.keys } };
-
-    ghost invariant = { λ c. (c.refs.items ≡ refs_in c.items.keys) × (c.own ≡ totals_in (group_of c.block) c.items.keys) };
+    ghost view = { λ c. record { block = c.block; items = c.items } };
 }
 
-/// What a name stands for. Copies share the members until one of them grows.
+/// What a name stands for. Copies share the members until one of them changes.
 #[derive(Debug, Drop)]
 pub(crate) struct Stated {
     content: Arc<Content>,
@@ -76,89 +68,14 @@ pub(crate) fn name_in(item: &Item) -> Option<&Name>
     }
 }
 
-/// The names that members refer to, in their order.
-pub(crate) fn refs_in(alloc: Global, items: &[Item]) -> Result<Vec<Name>, AllocError>
-    ensures { IfOk result (λ v. v.items ≡ spec.refs_in items.now) }
-{
-    let mut refs = Vec::new(alloc);
-    for item in items {
-        if let Some(name) = name_in(item) {
-            refs.push(name.copy())?;
-        }
-    }
-    Ok(refs)
-}
-
-/// How much members state by themselves together.
-pub(crate) fn totals_in(group: GroupKind, items: &[Item]) -> Option<Totals>
-    ensures { IfSome result (λ t. t ≡ spec.totals_in group items.now) }
-{
-    let mut totals = Totals::none();
-    for item in items {
-        totals = totals.plus(own_totals(group, item))?;
-    }
-    Some(totals)
-}
-
-/// How much members state by themselves with further ones.
-fn totals_with(own: Totals, group: GroupKind, added: &[Item]) -> Option<Totals>
-    ensures { IfSome result (λ t. t ≡ spec.both_totals own (spec.totals_in group added.now)) }
-{
-    own.plus(totals_in(group, added)?)
-}
-
-/// Adds members that aren't there, and the names that they refer to. On want of memory all is as before.
-fn extend(
-    items: &mut IndexSet<Item>,
-    refs: &mut Vec<Name>,
-    added: IndexSet<Item>,
-    more: Vec<Name>,
-) -> Result<(), AllocError>
-    requires { AreNew items.old.keys added.keys }
-    ensures items { OnOk result (items.new.keys ≡ items.old.keys ++ added.keys) }
-    ensures refs { OnOk result (refs.new.items ≡ refs.old.items ++ more.items) }
-    ensures same { OnErr result (items.new.keys ≡ items.old.keys) }
-    ensures same_refs { OnErr result (refs.new.items ≡ refs.old.items) }
-{
-    let mut more = more;
-    refs.reserve(more.len())?;
-    append(items, added)?;
-    match refs.append(&mut more) {
-        Ok(()) => Ok(()),
-        Err(_) => unreachable!(),
-    }
-}
-
 impl Content {
-    /// The content with these members. A total that passes its type's end counts as want of memory.
-    fn new(alloc: Global, block: BlockKind, items: IndexSet<Item>) -> Result<Content, AllocError>
-        ensures { IfOk result (λ c. c ≡ record { block = block; items = items.keys }) }
-    {
-        let refs = refs_in(alloc, items.as_slice())?;
-        let Some(own) = totals_in(group_of(block), items.as_slice()) else {
-            return Err(AllocError);
-        };
-        Ok(Content {
-            block,
-            items,
-            refs,
-            own,
-        })
-    }
-
-    /// Adds members that aren't there, at the end. On want of memory all is as before.
-    fn grow(&mut self, alloc: Global, added: IndexSet<Item>) -> Result<(), AllocError>
-        requires { AreNew self.old.items added.keys }
-        ensures ok { OnOk result (self.new ≡ grown self.old added.keys) }
+    /// Takes out the members that go, and adds others at the end. On want of memory all is as before.
+    fn change(&mut self, gone: &IndexSet<Item>, added: &OrderedItems) -> Result<(), AllocError>
+        requires { AreNew (standing self.old.items gone.now.keys) added.now }
+        ensures ok { OnOk result (self.new ≡ changed_entry self.old gone.now.keys added.now) }
         ensures err { OnErr result (self.new ≡ self.old) }
     {
-        let more = refs_in(alloc, added.as_slice())?;
-        let Some(own) = totals_with(self.own, group_of(self.block), added.as_slice()) else {
-            return Err(AllocError);
-        };
-        extend(&mut self.items, &mut self.refs, added, more)?;
-        self.own = own;
-        Ok(())
+        self.items.change(gone, added)
     }
 
     fn block(&self) -> BlockKind
@@ -167,22 +84,10 @@ impl Content {
         self.block
     }
 
-    fn set(&self) -> &IndexSet<Item>
-        ensures { result.now.keys ≡ self.now.items }
+    fn items(&self) -> &OrderedItems
+        ensures { result.now ≡ self.now.items }
     {
         &self.items
-    }
-
-    fn refs(&self) -> &[Name]
-        ensures { result.now ≡ spec.refs_in self.now.items }
-    {
-        self.refs.as_slice()
-    }
-
-    fn own(&self) -> Totals
-        ensures { result ≡ spec.totals_in (group_of self.now.block) self.now.items }
-    {
-        self.own
     }
 }
 
@@ -192,34 +97,40 @@ impl Clone for Content {
     ghost is_clone = { λ a b. b ≡ a };
 
     fn clone(&self) -> Result<Content, AllocError> {
-        let items = copy_of(&self.items)?;
-        Content::new(*self.items.allocator(), self.block, items)
+        let items = self.items.copy()?;
+        Ok(Content {
+            block: self.block,
+            items,
+        })
     }
 }
 
 impl Stated {
-    /// The value with these members. A total that passes its type's end counts as want of memory.
-    pub(crate) fn new(
-        alloc: Global,
-        block: BlockKind,
-        items: IndexSet<Item>,
-    ) -> Result<Stated, AllocError>
-        ensures { IfOk result (λ s. s ≡ record { block = block; items = items.keys }) }
+    /// The value without members.
+    pub(crate) fn empty(alloc: Global, block: BlockKind) -> Result<Stated, AllocError>
+        ensures { IfOk result (λ s. s ≡ record { block = block; items = [] }) }
     {
-        let content = Content::new(alloc, block, items)?;
+        let content = Content {
+            block,
+            items: OrderedItems::new(alloc),
+        };
         let content = Arc::new(alloc, content)?;
         Ok(Stated { content })
     }
 
-    /// Adds members that aren't there, at the end: in place where no copy shares the members, else to members of its own.
-    /// On want of memory all is as before.
-    pub(crate) fn grow(&mut self, alloc: Global, added: IndexSet<Item>) -> Result<(), AllocError>
-        requires { AreNew self.old.items added.keys }
-        ensures ok { OnOk result (self.new ≡ grown self.old added.keys) }
+    /// Takes out the members that go, and adds others at the end: in place where no copy shares the members, else to members
+    /// of its own. On want of memory all is as before.
+    pub(crate) fn change(
+        &mut self,
+        gone: &IndexSet<Item>,
+        added: &OrderedItems,
+    ) -> Result<(), AllocError>
+        requires { AreNew (standing self.old.items gone.now.keys) added.now }
+        ensures ok { OnOk result (self.new ≡ changed_entry self.old gone.now.keys added.now) }
         ensures err { OnErr result (self.new ≡ self.old) }
     {
         let content = Arc::make_mut(&mut self.content)?;
-        content.grow(alloc, added)
+        content.change(gone, added)
     }
 
     /// What its block defines.
@@ -230,31 +141,18 @@ impl Stated {
     }
 
     /// Its members.
-    pub(crate) fn items(&self) -> &[Item]
+    pub(crate) fn items(&self) -> &OrderedItems
         ensures { result.now ≡ self.now.items }
     {
-        self.content.set().as_slice()
+        self.content.items()
     }
 
-    /// Its members as a set.
-    pub(crate) fn set(&self) -> &IndexSet<Item>
-        ensures { result.now.keys ≡ self.now.items }
+    /// Whether a member is there.
+    pub(crate) fn has(&self, item: &Item) -> bool
+        ensures value { result ≡ has_item self.now.items item.now }
+        ensures distinct { AreDistinct self.now.items }
     {
-        self.content.set()
-    }
-
-    /// The names that its members refer to, in their order.
-    pub(crate) fn refs(&self) -> &[Name]
-        ensures { result.now ≡ spec.refs_in self.now.items }
-    {
-        self.content.refs()
-    }
-
-    /// How much its members state by themselves.
-    pub(crate) fn own(&self) -> Totals
-        ensures { result ≡ spec.totals_in (group_of self.now.block) self.now.items }
-    {
-        self.content.own()
+        self.items().has(item)
     }
 }
 

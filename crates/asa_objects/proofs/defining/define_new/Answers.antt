@@ -1,6 +1,6 @@
-use Rattle.std.proofs.Common.{◌≡◌, [], cond, Some, Err, is_some, refl, sym, subst, ap, ◌∙◌}
+use Rattle.std.proofs.Common.{◌≡◌, [], cond, Option, Some, IsSomeAnd, Err, refl, sym, subst, ap, ◌∙◌}
 use Rattle.std.specs.List.{list_any}
-use Rattle.asa_objects.specs.Tables.{Table, entry_of, items_of, refers_to, with_entry, without_name}
+use Rattle.asa_objects.specs.Tables.{Entry, Table, entry_of, items_of, refers_to, with_entry, without_name}
 use Rattle.asa_objects.specs.Defining.{Defines, begun, changed_by}
 use Rattle.asa_objects.proofs.LabelLaws.{same-self}
 use Rattle.asa_objects.proofs.PutLaws.{entry-put, name-gone}
@@ -10,9 +10,11 @@ use Rattle.asa_objects.proofs.defining.define_new.Goals as goal
 
 pub change_value-result-requires-clause-there : goal.change_value-result-requires-clause-there
 change_value-result-requires-clause-there c =
-    ap (λ (t : Table). is_some (entry_of t c.args.top.now.name)) c.in_ok-open_name.ensures.ok
-    ∙ ap is_some (entry-put c.args.values.now.entries c.args.top.now.name (made_of c.args.top.now.block []) c.args.top.now.name
-    ∙ ap (λ b. cond b (Some (made_of c.args.top.now.block [])) (entry_of c.args.values.now.entries c.args.top.now.name)) (same-self c.args.top.now.name))
+    let put : entry_of c.open_name.new.values.entries c.args.top.now.name ≡ Some (made_of c.args.top.now.block []) =
+    ap (λ (t : Table). entry_of t c.args.top.now.name) c.in_ok-open_name.ensures.ok
+    ∙ entry-put c.args.values.now.entries c.args.top.now.name (made_of c.args.top.now.block []) c.args.top.now.name
+    ∙ ap (λ b. cond b (Some (made_of c.args.top.now.block [])) (entry_of c.args.values.now.entries c.args.top.now.name)) (same-self c.args.top.now.name) in
+    subst (λ (o : Option Entry). IsSomeAnd o (λ e. e.block ≡ c.args.top.now.block)) (sym put) refl
 
 pub close_name-requires-clause-unused : goal.close_name-requires-clause-unused
 close_name-requires-clause-unused c = λ q.

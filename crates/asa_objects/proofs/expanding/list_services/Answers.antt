@@ -7,7 +7,7 @@ use Rattle.asa_objects.proofs.expanding.list_services.Goals as goal
 
 pub loop-rest-smaller : goal.loop-rest-smaller
 loop-rest-smaller c =
-    let popped : cost c.args.values.now.entries c.loop-rest.stack.items ≡ cost c.args.values.now.entries c.pop.new.self.items + cost_of c.args.values.now.entries c.in-Some.rest.items.now =
+    let popped : cost c.args.values.now.entries c.loop-rest.stack.items ≡ cost c.args.values.now.entries c.pop.new.self.items + cost_of c.args.values.now.entries c.in-Some.rest.items =
     ap (cost c.args.values.now.entries) c.in-Some.ensures.items ∙ cost-push c.args.values.now.entries c.pop.new.self.items c.in-Some.rest in
     let less = c.in_ok-step_services.ensures.shorter in
     omega (arith, popped, less)

@@ -1,10 +1,10 @@
 use Rattle.asa_members.specs.Items.{item_services}
-use Rattle.std.proofs.Common.{◌≡◌, ◌+◌, ◌≤◌, suc, ◌++◌, length, sym, subst, ap, ◌∙◌}
-use Rattle.asa_objects.specs.Tables.{items_of, services_of_name}
+use Rattle.std.proofs.Common.{◌≡◌, ◌++◌, sym, ap, ◌∙◌}
+use Rattle.asa_objects.specs.Tables.{services_of_name}
 use Rattle.asa_objects.specs.Ranks.{services, amount, amount_of, rank_of}
-use Rattle.asa_objects.specs.Stacks.{given_by, unwound_services, cost, visits}
+use Rattle.asa_objects.specs.Stacks.{unwound_services}
 use Rattle.asa_objects.proofs.TotalLaws.{amount-rank}
-use Rattle.asa_objects.proofs.StackLaws.{services-given, no-services, wait-listed, wait-cost}
+use Rattle.asa_objects.proofs.StackLaws.{services-given, no-services, wait-listed, wait-cost, on-ok}
 use Rattle.asa_objects.proofs.expanding.wait_for_services.Goals as goal
 
 pub returns-then-totals_of-eq0-clause-listed : goal.returns-then-totals_of-eq0-clause-listed
@@ -15,14 +15,13 @@ returns-then-totals_of-eq0-clause-listed c =
     ap (λ m. m ++ unwound_services c.args.values.now.entries c.args.stack.now.items)
     (sym (no-services c.args.values.now.entries c.args.kept.now.ranks.entries c.args.kept.now.uses.entries c.args.kept.now.stamp c.requires c.args.name.now none))
 
-pub returns-clause-listed : goal.returns-clause-listed
-returns-clause-listed c =
-    ap (unwound_services c.args.values.now.entries) c.in_ok-push.ensures.items
-    ∙ wait-listed c.args.values.now.entries c.args.kept.now.ranks.entries c.args.kept.now.uses.entries c.args.kept.now.stamp c.requires item_services (services_of_name c.args.values.now.entries) c.args.stack.now.items c.rest_of.result c.args.name.now
-    (services-given c.args.values.now.entries c.args.kept.now.ranks.entries c.args.kept.now.uses.entries c.args.kept.now.stamp c.requires c.args.name.now
-    ∙ ap (λ g. given_by (item_services g) (services_of_name c.args.values.now.entries) (items_of c.args.values.now.entries c.args.name.now)) (sym c.rest_of.ensures.group)) c.rest_of.ensures.items
+pub returns-in-Some-clause-listed : goal.returns-in-Some-clause-listed
+returns-in-Some-clause-listed c = on-ok _ _ c.wait_for_rest.result c.wait_for_rest.ensures
+    (λ waits. wait-listed c.args.values.now.entries c.args.kept.now.ranks.entries c.args.kept.now.uses.entries c.args.kept.now.stamp c.requires item_services (services_of_name c.args.values.now.entries)
+    c.args.stack.now.items c.wait_for_rest.new.stack.items c.args.name.now c.in-Some.stated.now
+    (services-given c.args.values.now.entries c.args.kept.now.ranks.entries c.args.kept.now.uses.entries c.args.kept.now.stamp c.requires c.args.name.now) c.in-Some.ensures.value waits)
 
-pub returns-clause-shorter : goal.returns-clause-shorter
-returns-clause-shorter c =
-    subst (λ rs. cost c.args.values.now.entries rs ≤ suc (length (visits c.args.values.now.entries c.args.name.now)) + cost c.args.values.now.entries c.args.stack.now.items) (sym c.in_ok-push.ensures.items)
-    (wait-cost c.args.values.now.entries c.args.kept.now.ranks.entries c.args.kept.now.uses.entries c.args.kept.now.stamp c.requires c.args.stack.now.items c.rest_of.result c.args.name.now c.rest_of.ensures.items)
+pub returns-in-Some-clause-shorter : goal.returns-in-Some-clause-shorter
+returns-in-Some-clause-shorter c = on-ok _ _ c.wait_for_rest.result c.wait_for_rest.ensures
+    (λ waits. wait-cost c.args.values.now.entries c.args.kept.now.ranks.entries c.args.kept.now.uses.entries c.args.kept.now.stamp c.requires
+    c.args.stack.now.items c.wait_for_rest.new.stack.items c.args.name.now c.in-Some.stated.now c.in-Some.ensures.value waits)

@@ -14,7 +14,7 @@ returns-in-Ok-clause-sound c =
     let next : c.in-Some.next ≡ c.args.kept.now.stamp + 1 = search rules in
     subst (λ n. IsSound c.insert.new.self.entries c.insert-2.new.self.entries c.args.kept.now.uses.entries n) (sym next)
     (open-sound c.args.values.now.entries c.insert.new.self.entries c.args.kept.now.ranks.entries c.insert-2.new.self.entries c.args.kept.now.uses.entries c.args.kept.now.stamp c.args.name.now c.in_ok-empty.empty
-    c.requires.sound c.requires.absent (ap (λ (e : Entry). e.items) c.in_ok-empty.ensures ∙ c.new.ensures.empty)
+    c.requires.sound c.requires.absent (ap (λ (e : Entry). e.items) c.in_ok-empty.ensures)
     (λ q. c.in_ok-insert.ensures.updates.0 q ∙ ap (λ k. cond (same_name k q) (Some c.in_ok-empty.empty) (entry_of c.args.values.now.entries q)) c.copy.ensures)
     (λ q. c.in-Ok.ensures.updates.0 q ∙ ap (λ k. cond (same_name k q) (Some c.empty_rank.result) (rank_of c.args.kept.now.ranks.entries q)) c.copy-2.ensures
     ∙ ap (λ r. cond (same_name c.args.name.now q) (Some r) (rank_of c.args.kept.now.ranks.entries q)) c.empty_rank.ensures))

@@ -3,4 +3,4 @@ use Rattle.asa_objects.specs.Using.{AreUnused}
 use Rattle.asa_objects.proofs.using.drop_uses.Given as goal
 
 abbrev pub invariant-loop-name : goal.invariant-loop-name
-invariant-loop-name l = AreUnused l.initial.uses.entries l.uses.entries l.user (take l.name-index l.names) l.kept.keys
+invariant-loop-name l = AreUnused l.initial.uses.entries l.uses.entries l.user (take l.name-index l.names)

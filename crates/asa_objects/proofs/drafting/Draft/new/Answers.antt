@@ -6,5 +6,5 @@ use Rattle.asa_objects.proofs.drafting.Draft.new.Goals as goal
 
 pub returns-clause-members : goal.returns-clause-members
 returns-clause-members c =
-    ap (λ xs. standing c.set.result.now.keys c.new.result.keys ++ xs) c.new-2.ensures ∙ append-nil _
-    ∙ standing-all c.set.result.now.keys c.new.result.keys c.new.ensures.empty ∙ c.set.ensures
+    ap (λ xs. standing c.items.result.now c.new.result.keys ++ xs) c.new-2.ensures ∙ append-nil _
+    ∙ standing-all c.items.result.now c.new.result.keys c.new.ensures.empty ∙ c.items.ensures
