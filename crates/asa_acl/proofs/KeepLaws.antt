@@ -1,15 +1,15 @@
 -- The lines that are kept of each name, after a change at one name.
-use Rattle.std.proofs.Common.{◌≡◌, ℕ, ◌+◌, ◌≤◌, ◌++◌, ◌-◌, take, drop, get_or, true≢false, Bool, true, false, cond, ◌||◌, List, [], ◌∷◌, length, map, Option, Some, None, unwrap_or, sum_by, Result, Ok, Err, OnErr, if◌then◌else◌, refl, sym, ap, ◌∙◌, arith}
+use Rattle.std.proofs.Common.{◌≡◌, ℕ, ◌+◌, ◌*◌, ◌≤◌, ◌-◌, take, drop, get_or, true≢false, Bool, true, false, cond, ◌||◌, List, [], ◌∷◌, length, map, Option, Some, None, unwrap_or, Result, Ok, Err, OnErr, if◌then◌else◌, refl, sym, ap, ◌∙◌, arith}
 use Rattle.std.proofs.lemmas.Bool.Decides.{same_from_decides, Decides-like}
 use Rattle.std.proofs.lemmas.List.{take_rest}
-use Rattle.std.proofs.lemmas.List.Sums.{sum_by-cons, sum_by_push}
+use Rattle.std.proofs.lemmas.List.Sums.{sum_by-cons}
 use Rattle.std.proofs.lemmas.Slice.Eq.{bytes_eq-Decides}
 use Rattle.std.specs.List.{list_any}
 use Rattle.std.specs.Map.{lookup}
 use Rattle.std.specs.Str.{bytes_eq}
 use Rattle.asa_ace.specs.declared.stating.AclLine.{AclLine}
 use Rattle.asa_ace.specs.Lines.{is_named}
-use Rattle.asa_acl.specs.Uses.{LinesByName, lines_of, last_name, stands_at, KeepsSame, KeepsMore, KeepsLine}
+use Rattle.asa_acl.specs.Uses.{LinesByName, counted, lines_of, last_name, stands_at, KeepsSame, KeepsMore, KeepsLine}
 
 bytes_eq-sym : (a b : List ℕ) → bytes_eq a b ≡ bytes_eq b a
 bytes_eq-sym a b = same_from_decides (bytes_eq a b) (bytes_eq b a) (bytes_eq-Decides a b)
@@ -25,23 +25,23 @@ on_err P (Err e) p = p
 
 -- one name ---------------------------------------------------------------------------------------------------------------
 
-pub lines_found : (kept : LinesByName) (name : List ℕ) (ls : List AclLine) → lookup (bytes_eq name) kept ≡ Some ls → lines_of kept name ≡ ls
+pub lines_found : (kept : LinesByName) (name : List ℕ) (ls : List (AclLine × ℕ)) → lookup (bytes_eq name) kept ≡ Some ls → lines_of kept name ≡ ls
 unfolding lines_of
-lines_found kept name ls e = ap (λ (o : Option (List AclLine)). unwrap_or o []) e
+lines_found kept name ls e = ap (λ (o : Option (List (AclLine × ℕ))). unwrap_or o []) e
 
 pub lines_missing : (kept : LinesByName) (name : List ℕ) → lookup (bytes_eq name) kept ≡ None → lines_of kept name ≡ []
 unfolding lines_of
-lines_missing kept name e = ap (λ (o : Option (List AclLine)). unwrap_or o []) e
+lines_missing kept name e = ap (λ (o : Option (List (AclLine × ℕ))). unwrap_or o []) e
 
 -- the lines of one name become others
-abbrev pub ChangesAt : LinesByName → LinesByName → List ℕ → Option (List AclLine) → Type 0
+abbrev pub ChangesAt : LinesByName → LinesByName → List ℕ → Option (List (AclLine × ℕ)) → Type 0
 ChangesAt old new name w = (q : List ℕ) → lookup (bytes_eq q) new ≡ cond (bytes_eq name q) w (lookup (bytes_eq q) old)
 
-module _ (old new : LinesByName) (name key : List ℕ) (w : Option (List AclLine)) (same : key ≡ name) (changes : ChangesAt old new key w) where
+module _ (old new : LinesByName) (name key : List ℕ) (w : Option (List (AclLine × ℕ))) (same : key ≡ name) (changes : ChangesAt old new key w) where
   -- at that name and at every other
   changed : (n : List ℕ) → lines_of new n ≡ (if bytes_eq n name then unwrap_or w [] else lines_of old n)
   unfolding lines_of
-  changed n = ap (λ (o : Option (List AclLine)). unwrap_or o []) (changes n)
+  changed n = ap (λ (o : Option (List (AclLine × ℕ))). unwrap_or o []) (changes n)
       ∙ ap (λ (x : List ℕ). unwrap_or (cond (bytes_eq x n) w (lookup (bytes_eq n) old)) []) same
       ∙ ap (λ b. unwrap_or (cond b w (lookup (bytes_eq n) old)) []) (bytes_eq-sym name n) ∙ by (bytes_eq n name)
     where
@@ -49,46 +49,43 @@ module _ (old new : LinesByName) (name key : List ℕ) (w : Option (List AclLine
       by true = refl
       by false = refl
 
-  pub changed_more : (l : AclLine) → ((f : AclLine → ℕ) → sum_by f (unwrap_or w []) ≡ sum_by f (lines_of old name) + f l) → KeepsMore old new (λ n. bytes_eq n name) l
-  changed_more l sums n f = ap (sum_by f) (changed n) ∙ by (bytes_eq n name) (bytes_eq-Decides n name).0
+  pub changed_more : (l : AclLine) → ((f : AclLine → ℕ) → counted f (unwrap_or w []) ≡ counted f (lines_of old name) + f l) → KeepsMore old new (λ n. bytes_eq n name) l
+  changed_more l sums n f = ap (counted f) (changed n) ∙ by (bytes_eq n name) (bytes_eq-Decides n name).0
     where
-      by : (b : Bool) → (b ≡ true → n ≡ name) → sum_by f (if b then unwrap_or w [] else lines_of old n) ≡ sum_by f (lines_of old n) + (if b then f l else 0)
-      by true is = sums f ∙ ap (λ (m : List ℕ). sum_by f (lines_of old m) + f l) (sym (is refl))
+      by : (b : Bool) → (b ≡ true → n ≡ name) → counted f (if b then unwrap_or w [] else lines_of old n) ≡ counted f (lines_of old n) + (if b then f l else 0)
+      by true is = sums f ∙ ap (λ (m : List ℕ). counted f (lines_of old m) + f l) (sym (is refl))
       by false is = omega arith
 
-  pub changed_less : (l : AclLine) → ((f : AclLine → ℕ) → sum_by f (lines_of old name) ≡ sum_by f (unwrap_or w []) + f l) → KeepsMore new old (λ n. bytes_eq n name) l
-  changed_less l sums n f = by (bytes_eq n name) (bytes_eq-Decides n name).0 ∙ ap (λ (ls : List AclLine). sum_by f ls + (if bytes_eq n name then f l else 0)) (sym (changed n))
+  pub changed_less : (l : AclLine) → ((f : AclLine → ℕ) → counted f (lines_of old name) ≡ counted f (unwrap_or w []) + f l) → KeepsMore new old (λ n. bytes_eq n name) l
+  changed_less l sums n f = by (bytes_eq n name) (bytes_eq-Decides n name).0 ∙ ap (λ (ls : List (AclLine × ℕ)). counted f ls + (if bytes_eq n name then f l else 0)) (sym (changed n))
     where
-      by : (b : Bool) → (b ≡ true → n ≡ name) → sum_by f (lines_of old n) ≡ sum_by f (if b then unwrap_or w [] else lines_of old n) + (if b then f l else 0)
-      by true is = ap (λ (m : List ℕ). sum_by f (lines_of old m)) (is refl) ∙ sums f
+      by : (b : Bool) → (b ≡ true → n ≡ name) → counted f (lines_of old n) ≡ counted f (if b then unwrap_or w [] else lines_of old n) + (if b then f l else 0)
+      by true is = ap (λ (m : List ℕ). counted f (lines_of old m)) (is refl) ∙ sums f
       by false is = omega arith
 
-  pub changed_same : ((f : AclLine → ℕ) → sum_by f (unwrap_or w []) ≡ sum_by f (lines_of old name)) → KeepsSame old new
-  changed_same sums n f = ap (sum_by f) (changed n) ∙ by (bytes_eq n name) (bytes_eq-Decides n name).0
+  pub changed_same : ((f : AclLine → ℕ) → counted f (unwrap_or w []) ≡ counted f (lines_of old name)) → KeepsSame old new
+  changed_same sums n f = ap (counted f) (changed n) ∙ by (bytes_eq n name) (bytes_eq-Decides n name).0
     where
-      by : (b : Bool) → (b ≡ true → n ≡ name) → sum_by f (if b then unwrap_or w [] else lines_of old n) ≡ sum_by f (lines_of old n)
-      by true is = sums f ∙ ap (λ (m : List ℕ). sum_by f (lines_of old m)) (sym (is refl))
+      by : (b : Bool) → (b ≡ true → n ≡ name) → counted f (if b then unwrap_or w [] else lines_of old n) ≡ counted f (lines_of old n)
+      by true is = sums f ∙ ap (λ (m : List ℕ). counted f (lines_of old m)) (sym (is refl))
       by false is = refl
 
-pub sum_pushed : (f : AclLine → ℕ) (old new : List AclLine) (l : AclLine) → new ≡ old ++ l ∷ [] → sum_by f new ≡ sum_by f old + f l
-sum_pushed f old new l e = ap (sum_by f) e ∙ sum_by_push f old l
-
 -- the sum over a line alone, where there was none
-pub sum_alone : (f : AclLine → ℕ) (old new : List AclLine) (l : AclLine) → old ≡ [] → new ≡ l ∷ [] → sum_by f new ≡ sum_by f old + f l
-sum_alone f old new l none one = omega (arith, ap (sum_by f) none, ap (sum_by f) one, sum_by-cons f l [])
+pub sum_alone : (f : AclLine → ℕ) (old new : List (AclLine × ℕ)) (l : AclLine) → old ≡ [] → new ≡ (l, 1) ∷ [] → counted f new ≡ counted f old + f l
+sum_alone f old new l none one = omega (arith, ap (counted f) none, ap (counted f) one, sum_by-cons (λ (e : AclLine × ℕ). e.1 * f e.0) (l, 1) [])
 
 -- no line, no sum
-pub sum_none : (f : AclLine → ℕ) (ls : List AclLine) → length ls ≡ 0 → sum_by f [] ≡ sum_by f ls
+pub sum_none : (f : AclLine → ℕ) (ls : List (AclLine × ℕ)) → length ls ≡ 0 → counted f [] ≡ counted f ls
 sum_none f [] none = refl
 sum_none f (l ∷ ls) none = absurd (omega (arith, none))
 
 -- the lines of a name have each line that is kept of it
-pub kept_alone : (kept : LinesByName) (name : List ℕ) (l : AclLine) (ls : List AclLine) → KeepsLine kept (λ n. bytes_eq n name) l → lookup (bytes_eq name) kept ≡ Some ls
-    → (f : AclLine → ℕ) → f l ≤ sum_by f ls
+pub kept_alone : (kept : LinesByName) (name : List ℕ) (l : AclLine) (ls : List (AclLine × ℕ)) → KeepsLine kept (λ n. bytes_eq n name) l → lookup (bytes_eq name) kept ≡ Some ls
+    → (f : AclLine → ℕ) → f l ≤ counted f ls
 kept_alone kept name l ls keeps e f =
-    let there : (if bytes_eq name name then f l else 0) ≤ sum_by f (lines_of kept name) = keeps name f in
+    let there : (if bytes_eq name name then f l else 0) ≤ counted f (lines_of kept name) = keeps name f in
     let yes : (if bytes_eq name name then f l else 0) ≡ f l = ap (λ b. if b then f l else 0) (bytes_eq-refl name) in
-    let found : sum_by f (lines_of kept name) ≡ sum_by f ls = ap (sum_by f) (lines_found kept name ls e) in
+    let found : counted f (lines_of kept name) ≡ counted f ls = ap (counted f) (lines_found kept name ls e) in
     omega (arith, there, yes, found)
 
 -- so such a name is there
@@ -96,9 +93,9 @@ pub kept_there : (kept : LinesByName) (name : List ℕ) (l : AclLine) → KeepsL
 kept_there kept name l keeps e =
     let one : AclLine → ℕ = λ _. 1 in
     let weight : Bool → ℕ = λ b. if b then 1 else 0 in
-    let there : weight (bytes_eq name name) ≤ sum_by one (lines_of kept name) = keeps name one in
+    let there : weight (bytes_eq name name) ≤ counted one (lines_of kept name) = keeps name one in
     let yes : weight (bytes_eq name name) ≡ weight true = ap weight (bytes_eq-refl name) in
-    let none : sum_by one (lines_of kept name) ≡ sum_by one [] = ap (sum_by one) (lines_missing kept name e) in
+    let none : counted one (lines_of kept name) ≡ counted one [] = ap (counted one) (lines_missing kept name e) in
     omega (arith, there, yes, none)
 
 -- one change after another

@@ -1,3 +1,4 @@
+mod CountLaws
 mod KeepLaws
 mod LineLaws
 pub mod UseLaws

@@ -1,16 +1,15 @@
 -- Which lines of a list use a name, and what is kept of them.
-use Rattle.std.proofs.Common.{◌≡◌, ℕ, ◌+◌, ◌<◌, ◌≤◌, ◌==◌, Bool, true, false, cond, not, ◌||◌, List, [], ◌∷◌, length, filter, sum_by, position, Option, Some, None, if◌then◌else◌, refl, sym, ap, ◌∙◌, get_or, arith, insert, remove, swap_remove, suc, nat_lt}
+use Rattle.std.proofs.Common.{◌≡◌, ◌↔◌, IsTrue, zero, ℕ, ◌+◌, ◌*◌, ◌<◌, ◌≤◌, ◌==◌, Bool, true, false, cond, not, ◌||◌, List, [], ◌∷◌, length, filter, sum_by, Option, if◌then◌else◌, refl, sym, ap, ◌∙◌, get_or, arith, insert, remove, suc}
 use Rattle.std.proofs.lemmas.Bool.Decides.{nat_tests}
-use Rattle.std.proofs.lemmas.List.Quantifiers.{position-Some}
-use Rattle.std.proofs.lemmas.List.Sums.{sum_by-cons, sum_by-insert, sum_by-remove, sum_by-swap_remove, get_or-le-sum_by}
-use Rattle.std.specs.List.{list_any, position_or_len}
+use Rattle.std.proofs.lemmas.List.Sums.{sum_by-cons, sum_by-insert, sum_by-remove, get_or-le-sum_by}
+use Rattle.std.specs.List.{list_any}
 use Rattle.asa_ace.specs.declared.stating.Ace.{Ace}
 use Rattle.asa_ace.specs.declared.stating.AclLine.{AclLine}
 use Rattle.asa_ace.specs.declared.stating.AclLine.TheVariants as line
-use Rattle.asa_ace.specs.Lines.{is_named, address_name, service_name, source_ports_name, dest_ports_name, ace_uses, line_uses, line_eq}
-use Rattle.asa_ace.proofs.LineLaws.{line_tells, line_decides}
+use Rattle.asa_ace.specs.Lines.{is_named, address_name, service_name, source_ports_name, dest_ports_name, ace_uses, line_uses}
+use Rattle.asa_acl.proofs.CountLaws.{not_zero}
 use Rattle.asa_acl.specs.Lists.{AreUsing}
-use Rattle.asa_acl.specs.Uses.{LinesByName, lines_of, places, stands_at, KeepsSame, KeepsMore, KeepsLine}
+use Rattle.asa_acl.specs.Uses.{LinesByName, counted, uncounted, AllCounted, lines_of, places, stands_at, KeepsSame, KeepsMore, KeepsLine}
 
 -- the names that a line uses ---------------------------------------------------------------------------------------------
 
@@ -36,7 +35,7 @@ module _ (old new : LinesByName) (l : AclLine) where
     uses_of n = ap (stands_at n) same ∙ sym (uses_places n a) ∙ ap (line_uses n) (sym is)
 
     pub more_of_entry : KeepsMore old new (λ n. stands_at n ps) l → KeepsMore old new (λ n. line_uses n l) l
-    more_of_entry more n f = more n f ∙ ap (λ b. sum_by f (lines_of old n) + (if b then f l else 0)) (uses_of n)
+    more_of_entry more n f = more n f ∙ ap (λ b. counted f (lines_of old n) + (if b then f l else 0)) (uses_of n)
 
     pub kept_of_entry : KeepsLine old (λ n. line_uses n l) l → KeepsLine old (λ n. stands_at n ps) l
     kept_of_entry keeps n f = omega (arith, keeps n f, ap (λ b. if b then f l else 0) (uses_of n))
@@ -45,44 +44,6 @@ module _ (old new : LinesByName) (l : AclLine) where
   pub none_of_remark : (t : List ℕ) → l ≡ line.Remark t → KeepsMore old old (λ n. line_uses n l) l
   unfolding line_uses
   none_of_remark t is n f = omega (arith, ap (λ (x : AclLine). if line_uses n x then f l else 0) is)
-
--- equal lines ------------------------------------------------------------------------------------------------------------
-
-not_below : (a b : ℕ) → nat_lt a b ≡ false → b ≤ a
-not_below a b e = grind (arith, nat_tests)
-
-past_end : (p : AclLine → Bool) (ls : List AclLine) → position p ls ≡ None → length ls ≤ position_or_len p ls
-past_end p ls none = by (nat_lt (position_or_len p ls) (length ls)) refl none
-  where
-    by : (b : Bool) → nat_lt (position_or_len p ls) (length ls) ≡ b → cond b (Some (position_or_len p ls)) None ≡ None → length ls ≤ position_or_len p ls
-    by true e none = absurd (cc)
-    by false e none = not_below (position_or_len p ls) (length ls) e
-
-none_passes : (p : AclLine → Bool) (ls : List AclLine) → length ls ≤ position_or_len p ls → sum_by (λ x. if p x then 1 else 0) ls ≡ 0
-none_passes p [] past = refl
-none_passes p (x ∷ xs) past = sum_by-cons (λ x. if p x then 1 else 0) x xs ∙ by (p x) past (none_passes p xs)
-  where
-    by : (b : Bool) → suc (length xs) ≤ cond (not b) (1 + position_or_len p xs) 0 → (length xs ≤ position_or_len p xs → sum_by (λ x. if p x then 1 else 0) xs ≡ 0)
-        → (if b then 1 else 0) + sum_by (λ x. if p x then 1 else 0) xs ≡ 0
-    by true past rest = absurd (omega (arith, past))
-    by false past rest = omega (arith, rest (omega (arith, past)))
-
--- lines that have a line have one that is equal to it
-pub not_missing : (l : AclLine) (ls : List AclLine) → ((f : AclLine → ℕ) → f l ≤ sum_by f ls) → position (line_eq l) ls ≡ None → ⊥
-not_missing l ls has none =
-    let count : AclLine → ℕ = λ x. if line_eq l x then 1 else 0 in
-    let one : Bool → ℕ = λ b. if b then 1 else 0 in
-    let there : count l ≤ sum_by count ls = has count in
-    let own : count l ≡ one true = ap one ((line_decides l l).1 refl) in
-    omega (arith, there, own, none_passes (line_eq l) ls (past_end (line_eq l) ls none))
-
--- and the first such line is the line
-pub same_there : (l : AclLine) (ls : List AclLine) (i : ℕ) → position (line_eq l) ls ≡ Some i → (d : AclLine) → get_or ls i d ≡ l
-same_there l ls i found d = sym (line_tells l (get_or ls i d) (position-Some (line_eq l) ls i d found).1)
-
--- the lines without it
-pub sum_without : (f : AclLine → ℕ) (old new : List AclLine) (i : ℕ) (d l : AclLine) → i < length old → new ≡ swap_remove old i d → get_or old i d ≡ l → sum_by f old ≡ sum_by f new + f l
-sum_without f old new i d l within is same = omega (arith, sum_by-swap_remove f old i d within, ap (sum_by f) is, ap f same)
 
 -- the lines of a list ----------------------------------------------------------------------------------------------------
 
@@ -106,7 +67,7 @@ module _ (kept made : LinesByName) (lines : List AclLine) (before : (n : List �
       let put : sum_by weight (insert lines i l) ≡ sum_by weight lines + weight l = sum_by-insert weight lines i l in
       let after : sum_by f (filter (line_uses n) now) ≡ sum_by weight (insert lines i l) = filtered (line_uses n) f now ∙ ap (sum_by weight) is in
       let was : sum_by f (filter (line_uses n) lines) ≡ sum_by weight lines = filtered (line_uses n) f lines in
-      let added : sum_by f (lines_of made n) ≡ sum_by f (lines_of kept n) + weight l = more n f in
+      let added : counted f (lines_of made n) ≡ counted f (lines_of kept n) + weight l = more n f in
       omega (arith, put, after, was, added, before n f)
 
   module _ (i : ℕ) (l : AclLine) (within : i < length lines) (there : get_or lines i l ≡ l) where
@@ -117,7 +78,7 @@ module _ (kept made : LinesByName) (lines : List AclLine) (before : (n : List �
         let part : weight (get_or lines i l) ≤ sum_by weight lines = get_or-le-sum_by weight lines i l within in
         let was : sum_by f (filter (line_uses n) lines) ≡ sum_by weight lines = filtered (line_uses n) f lines in
         let is : weight (get_or lines i l) ≡ weight l = ap weight there in
-        let goal : weight l ≤ sum_by f (lines_of kept n) = omega (arith, part, was, is, before n f) in
+        let goal : weight l ≤ counted f (lines_of kept n) = omega (arith, part, was, is, before n f) in
         goal
 
     -- the list without it
@@ -128,18 +89,27 @@ module _ (kept made : LinesByName) (lines : List AclLine) (before : (n : List �
         let after : sum_by f (filter (line_uses n) now) ≡ sum_by weight (remove lines i) = filtered (line_uses n) f now ∙ ap (sum_by weight) is in
         let was : sum_by f (filter (line_uses n) lines) ≡ sum_by weight lines = filtered (line_uses n) f lines in
         let same : weight (get_or lines i l) ≡ weight l = ap weight there in
-        let taken : sum_by f (lines_of kept n) ≡ sum_by f (lines_of made n) + weight l = less n f in
+        let taken : counted f (lines_of kept n) ≡ counted f (lines_of made n) + weight l = less n f in
         omega (arith, gone, after, was, same, taken, before n f)
 
 -- without a line nothing is kept
 pub using_none : (kept : LinesByName) (lines : List AclLine) → kept ≡ [] → lines ≡ [] → (n : List ℕ) → AreUsing (lines_of kept n) n lines
 unfolding lines_of
 using_none kept lines no_names no_lines n f =
-    ap (λ (k : LinesByName). sum_by f (lines_of k n)) no_names ∙ ap (λ (ls : List AclLine). sum_by f (filter (line_uses n) ls)) (sym no_lines)
+    ap (λ (k : LinesByName). counted f (lines_of k n)) no_names ∙ ap (λ (ls : List AclLine). sum_by f (filter (line_uses n) ls)) (sym no_lines)
 
 ones : (ls : List AclLine) → sum_by (λ _. 1) ls ≡ length ls
 ones [] = refl
 ones (l ∷ ls) = sum_by-cons (λ _. 1) l ls ∙ ap (λ n. 1 + n) (ones ls) ∙ omega arith
+
+-- lines that are counted at least once add up to something
+any_counted : (used : List (AclLine × ℕ)) → AllCounted used → (length used == 0) ≡ (counted (λ _. 1) used == 0)
+any_counted [] some = refl
+any_counted (e ∷ es) some = not_zero (length (e ∷ es)) (omega arith) ∙ sym (not_zero (counted (λ _. 1) (e ∷ es)) (first e.1 refl))
+  where
+    first : (c : ℕ) → e.1 ≡ c → 1 ≤ counted (λ _. 1) (e ∷ es)
+    first zero is = absurd (omega (arith, some, sum_by-cons uncounted e es, ap (λ (c : ℕ). cond {A = ℕ} (c == 0) 1 0) is))
+    first (suc c) is = omega (arith, sum_by-cons (λ (x : AclLine × ℕ). x.1 * 1) e es, is)
 
 any_filtered : (p : AclLine → Bool) (ls : List AclLine) → not (length (filter p ls) == 0) ≡ list_any p ls
 any_filtered p [] = refl
@@ -149,8 +119,15 @@ any_filtered p (l ∷ ls) = by (p l) (any_filtered p ls)
     by true same = grind (arith, nat_tests)
     by false same = same
 
+-- a test that there is nothing
+none_told : (r : Bool) (n : ℕ) → (IsTrue r ↔ (n ≡ 0)) → r ≡ (n == 0)
+none_told true n told = ap (λ k. k == 0) (sym (told.0 refl))
+none_told false zero told = told.1 refl
+none_told false (suc n) told = sym (not_zero (suc n) (omega arith))
+
 -- lines are kept of a name exactly where some line uses it
-pub is_used : (used : List AclLine) (n : List ℕ) (lines : List AclLine) → AreUsing used n lines → not (length used == 0) ≡ list_any (line_uses n) lines
-is_used used n lines using =
-    let same : length used ≡ length (filter (line_uses n) lines) = sym (ones used) ∙ using (λ _. 1) ∙ ones (filter (line_uses n) lines) in
-    ap (λ k. not (k == 0)) same ∙ any_filtered (line_uses n) lines
+pub is_used : (used : List (AclLine × ℕ)) (n : List ℕ) (lines : List AclLine) (none : Bool) → (IsTrue none ↔ (length used ≡ 0)) → AllCounted used → AreUsing used n lines
+    → not none ≡ list_any (line_uses n) lines
+is_used used n lines none told some using =
+    ap not (none_told none (length used) told ∙ any_counted used some)
+    ∙ ap (λ k. not (k == 0)) (using (λ _. 1) ∙ ones (filter (line_uses n) lines)) ∙ any_filtered (line_uses n) lines

@@ -1,3 +1,4 @@
 pub mod Marks
+pub mod Keys
 pub mod Uses
 pub mod Lists

@@ -3,6 +3,7 @@ use Rattle.std.specs.Prelude.{◌≡◌, ℕ, ◌-◌, Bool, ◌==◌, List, len
 use Rattle.std.specs.List.{list_any}
 use Rattle.asa_ace.specs.declared.stating.AclLine.{AclLine}
 use Rattle.asa_ace.specs.Lines.{line_eq, line_uses}
+use Rattle.asa_acl.specs.Uses.{counted}
 
 pub record AccessLines : Type 0 where
   pub name : List ℕ
@@ -43,7 +44,7 @@ line_at n lines = if n == 0 then None else slice_get lines (n - 1)
 unfoldable pub list_uses : List ℕ → AccessLines → Bool
 list_uses name acl = list_any (line_uses name) acl.lines
 
--- the lines that use the object or group of this name, each as often as it stands in the list, in any order: every sum
--- over the ones is the sum over the others
-abbrev pub AreUsing : List AclLine → List ℕ → List AclLine → Type 0
-AreUsing used name lines = (f : AclLine → ℕ) → sum_by f used ≡ sum_by f (filter (line_uses name) lines)
+-- the lines that use the object or group of this name, each with how often it stands in the list, in any order: every
+-- sum over the ones is the sum over the others
+abbrev pub AreUsing : List (AclLine × ℕ) → List ℕ → List AclLine → Type 0
+AreUsing used name lines = (f : AclLine → ℕ) → counted f used ≡ sum_by f (filter (line_uses name) lines)

@@ -1,6 +1,6 @@
 -- Which lines a list keeps of each object and group that they use. Sums over lines tell which lines there are, and say
 -- nothing of their order.
-use Rattle.std.specs.Prelude.{◌≡◌, ℕ, ◌+◌, ◌≤◌, Bool, List, [], ◌∷◌, Option, Some, None, sum_by, unwrap_or, if◌then◌else◌}
+use Rattle.std.specs.Prelude.{◌≡◌, ℕ, ◌+◌, ◌*◌, ◌≤◌, ◌==◌, Bool, List, [], ◌∷◌, Option, Some, None, sum_by, unwrap_or, if◌then◌else◌}
 use Rattle.std.specs.List.{list_any}
 use Rattle.std.specs.Map.{lookup}
 use Rattle.std.specs.Str.{bytes_eq}
@@ -21,22 +21,34 @@ abbrev pub last_name : Option (List ℕ) → List (Option (List ℕ)) → Option
 last_name None rest = None
 last_name (Some name) rest = if stands_at name rest then None else Some name
 
--- the lines that are kept of each name
+-- the sum over lines, each as often as it is counted
+abbrev pub counted : (AclLine → ℕ) → List (AclLine × ℕ) → ℕ
+counted f used = sum_by (λ e. e.1 * f e.0) used
+
+-- 1 for a line that is counted no times
+abbrev pub uncounted : AclLine × ℕ → ℕ
+uncounted e = if e.1 == 0 then 1 else 0
+
+-- each line is counted at least once
+abbrev pub AllCounted : List (AclLine × ℕ) → Type 0
+AllCounted used = sum_by uncounted used ≡ 0
+
+-- the lines that are kept of each name, each once and with how often it is counted
 abbrev pub LinesByName : Type 0
-LinesByName = List (List ℕ × List AclLine)
+LinesByName = List (List ℕ × List (AclLine × ℕ))
 
 -- the lines that are kept of a name; of a name that isn't there, none
-unfoldable pub lines_of : LinesByName → List ℕ → List AclLine
+unfoldable pub lines_of : LinesByName → List ℕ → List (AclLine × ℕ)
 lines_of kept name = unwrap_or (lookup (bytes_eq name) kept) []
 
 -- the same lines are kept of each name
 abbrev pub KeepsSame : LinesByName → LinesByName → Type 0
-KeepsSame old new = (n : List ℕ) (f : AclLine → ℕ) → sum_by f (lines_of new n) ≡ sum_by f (lines_of old n)
+KeepsSame old new = (n : List ℕ) (f : AclLine → ℕ) → counted f (lines_of new n) ≡ counted f (lines_of old n)
 
 -- one more line is kept of each of these names
 abbrev pub KeepsMore : LinesByName → LinesByName → (List ℕ → Bool) → AclLine → Type 0
-KeepsMore old new named line = (n : List ℕ) (f : AclLine → ℕ) → sum_by f (lines_of new n) ≡ sum_by f (lines_of old n) + (if named n then f line else 0)
+KeepsMore old new named line = (n : List ℕ) (f : AclLine → ℕ) → counted f (lines_of new n) ≡ counted f (lines_of old n) + (if named n then f line else 0)
 
 -- the line is kept of each of these names
 abbrev pub KeepsLine : LinesByName → (List ℕ → Bool) → AclLine → Type 0
-KeepsLine kept named line = (n : List ℕ) (f : AclLine → ℕ) → (if named n then f line else 0) ≤ sum_by f (lines_of kept n)
+KeepsLine kept named line = (n : List ℕ) (f : AclLine → ℕ) → (if named n then f line else 0) ≤ counted f (lines_of kept n)

@@ -2,11 +2,15 @@
 ghost use Rattle.std.specs.Prelude.{◌≡◌, ℕ, ◌<◌, length, position, IfOk, IfSome};
 ghost use Rattle.asa_ace.specs.Lines.{line_eq};
 ghost use Rattle.asa_acl.specs.Marks as marks;
+ghost use Rattle.asa_acl.specs.Keys.{line_eq_equiv, hashed_alike};
+ghost use Rattle.std.specs.Cmp.{partial_equiv_from_equiv};
+ghost use Rattle.std.specs.Hash as fed;
 
 use crate::marking::mark_of;
 use asa_ace::AclLine;
 use asa_text::Shared;
 use std::alloc::{AllocError, Global};
+use std::hash::{Hash, Hasher};
 use std::marker::Model;
 
 /// A line as a list holds it: copies of the list share it. Its fingerprint stands beside it, so that a search for an
@@ -63,12 +67,37 @@ impl HeldLine {
     {
         self.mark == mark && item.is_same(self.line())
     }
+}
 
-    /// Whether the line is equal to one that is held too.
-    fn is_equal(&self, other: &HeldLine) -> bool
-        ensures { result ≡ line_eq other.now self.now }
-    {
-        self.holds(other.mark, other.line())
+impl Clone for HeldLine {
+    ghost is_clone = { λ a b. b ≡ a };
+
+    fn clone(&self) -> Result<HeldLine, AllocError> {
+        self.share()
+    }
+}
+
+impl PartialEq for HeldLine {
+    ghost eq = { line_eq };
+
+    ghost laws = { partial_equiv_from_equiv line_eq_equiv };
+
+    fn eq(&self, other: &HeldLine) -> bool {
+        other.holds(self.mark, self.line())
+    }
+}
+
+impl Eq for HeldLine {
+    ghost laws = { line_eq_equiv };
+}
+
+impl Hash for HeldLine {
+    ghost hash_input = { λ l. fed.u64 (marks.mark_of l) };
+
+    ghost respects_eq = { hashed_alike };
+
+    fn hash<H: Hasher>(&self, state: &mut H) {
+        self.mark.hash(state);
     }
 }
 
@@ -79,14 +108,6 @@ pub(crate) fn place_of_equal(lines: &[HeldLine], item: &AclLine) -> Option<usize
 {
     let mark = mark_of(item);
     lines.iter().position(|held| held.holds(mark, item))
-}
-
-/// The place, from 0, of the first line that is equal to one that is held too.
-pub(crate) fn place_of_held(lines: &[HeldLine], held: &HeldLine) -> Option<usize>
-    ensures value { result ≡ position (line_eq held.now) lines.now }
-    ensures within { IfSome result (λ i. i < length lines.now) }
-{
-    lines.iter().position(|other| other.is_equal(held))
 }
 
 /// The same lines, held once more.

@@ -2,6 +2,7 @@
 //! hands on what a line says and how it is read.
 #![tactic(auto)]
 
+mod counting;
 mod holding;
 mod listing;
 mod marking;
@@ -10,5 +11,6 @@ mod tests;
 mod using;
 
 pub use asa_ace::{Ace, AclLine, AddrRef, PortRef, ServiceRef, acl_line, parse_ace};
+pub use counting::UsedLines;
 pub use holding::HeldLine;
 pub use listing::{Acl, AclFault, MOST_LINES};

@@ -2,7 +2,9 @@
 ghost use Rattle.std.specs.Prelude.{◌≡◌, ℕ, ◌+◌, ◌-◌, ◌^◌, ◌<◌, ◌≤◌, ◌↔◌, List, [], length, insert, remove, OnOk, OnErr, IfOk, IfSome, IsErrOf, is_some};
 ghost use Rattle.std.specs.Option.{option_copied};
 ghost use Rattle.asa_acl.specs.Lists as spec;
+ghost use Rattle.asa_acl.specs.Uses.{AllCounted};
 
+use crate::counting::UsedLines;
 use crate::holding::{HeldLine, place_of_equal, share_lines};
 use crate::using::NameLines;
 use asa_ace::AclLine;
@@ -186,9 +188,11 @@ impl Acl {
         !self.uses.lines_of(name).is_empty()
     }
 
-    /// The lines that use the object or group of this name, each once, in no certain order; reads no other line.
-    pub fn lines_using(&self, name: &Name) -> &[HeldLine]
-        ensures { spec.AreUsing result.now name.now self.now.lines }
+    /// The lines that use the object or group of this name, each once and with how often it stands in the list, in no
+    /// certain order; reads no line.
+    pub fn lines_using(&self, name: &Name) -> UsedLines<'_>
+        ensures lines { spec.AreUsing result name.now self.now.lines }
+        ensures counted { AllCounted result }
     {
         self.uses.lines_of(name)
     }

@@ -76,10 +76,18 @@ fn assert_number(rt: &impl Abort, list: &Acl, item: &AclLine, number: u32) {
     assert_eq!(rt; place + 1, number);
 }
 
+/// How many lines use the object or group, where equal ones count each.
+fn users(list: &Acl, name: &Name) -> u32 {
+    let mut users: u32 = 0;
+    for (_, count) in list.lines_using(name).iter() {
+        users = users.saturating_add(*count);
+    }
+    users
+}
+
 /// Asserts how many lines use the object or group.
-fn assert_users(rt: &impl Abort, list: &Acl, text: &[u8], count: usize) {
-    let name = name(rt, text);
-    assert_eq!(rt; list.lines_using(&name).len(), count);
+fn assert_users(rt: &impl Abort, list: &Acl, text: &[u8], count: u32) {
+    assert_eq!(rt; users(list, &name(rt, text)), count);
 }
 
 fn is_remark(line: Option<&AclLine>) -> bool {
@@ -185,6 +193,30 @@ fn a_copy_keeps_the_lines_of_its_names(rt: HostRuntime) {
     take(&rt, &mut list, &between(&rt, b"WAN", b"LAN"));
     assert_users(&rt, &list, b"WAN", 0);
     assert_users(&rt, &copy, b"WAN", 1);
+}
+
+#[test]
+fn equal_lines_are_given_once_with_their_number(rt: HostRuntime) {
+    let list = mixed(&rt);
+    let dmz = list.lines_using(&name(&rt, b"DMZ"));
+    assert_eq!(rt; dmz.len(), 1);
+    let (line, count) = dmz.get_index(0).expect(&rt, "a line that uses it");
+    assert!(rt; line.line().is_same(&between(&rt, b"LAN", b"DMZ")));
+    assert_eq!(rt; *count, 2);
+}
+
+#[test]
+fn a_name_of_two_equal_lines_is_used_until_both_are_removed(rt: HostRuntime) {
+    let mut list = empty(&rt, b"OUT");
+    put_last(&rt, &mut list, b"LAN", b"WEB");
+    put_last(&rt, &mut list, b"LAN", b"WEB");
+    assert_users(&rt, &list, b"WEB", 2);
+    take(&rt, &mut list, &between(&rt, b"LAN", b"WEB"));
+    assert_users(&rt, &list, b"WEB", 1);
+    assert!(rt; list.uses(&name(&rt, b"WEB")));
+    take(&rt, &mut list, &between(&rt, b"LAN", b"WEB"));
+    assert_users(&rt, &list, b"WEB", 0);
+    assert!(rt; !list.uses(&name(&rt, b"WEB")));
 }
 
 /// A list of so many hosts in rising order.

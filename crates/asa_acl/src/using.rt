@@ -1,87 +1,17 @@
 //! Which lines of a list use each object and group.
-ghost use Rattle.std.specs.Prelude.{◌≡◌, ◌==◌, ℕ, ◌+◌, ◌<◌, ◌≤◌, List, [], ◌∷◌, ◌++◌, length, map, sum_by, get_or, OnOk, OnErr, IfOk};
+ghost use Rattle.std.specs.Prelude.{◌≡◌, ◌==◌, [], length, map, OnOk, OnErr, IfOk};
 ghost use Rattle.std.specs.Option.{option_copied};
 ghost use Rattle.std.specs.Str.{bytes_eq};
 ghost use Rattle.asa_ace.specs.Lines.{is_named, line_uses};
 ghost use Rattle.asa_acl.specs.Uses as spec;
 
-use crate::holding::{HeldLine, place_of_held, share_lines};
+use crate::counting::{UsedLines, UsingLines};
+use crate::holding::HeldLine;
 use asa_ace::{Ace, AclLine};
 use asa_base::Name;
 use indexmap::IndexMap;
 use std::alloc::{AllocError, Global};
 use std::marker::Model;
-
-/// The place of the first line that is equal to this one; the lines have one, since no sum over them is less.
-fn place_in(lines: &[HeldLine], held: &HeldLine) -> usize
-    requires { (f : AclLine → ℕ) → f held.now ≤ sum_by f lines.now }
-    ensures within { result < length lines.now }
-    ensures same { (d : AclLine) → get_or lines.now result d ≡ held.now }
-{
-    match place_of_held(lines, held) {
-        Some(place) => place,
-        None => unreachable!(),
-    }
-}
-
-/// The lines that use one object or group, in no certain order.
-#[derive(Debug, Drop)]
-struct UsingLines {
-    lines: Vec<HeldLine>,
-    alloc: Global,
-}
-
-impl Model for UsingLines {
-    ghost use Rattle.std.specs.Prelude.{List};
-    ghost use Rattle.asa_ace.specs.declared.stating.AclLine.{AclLine};
-
-    ghost Value = { List AclLine };
-
-    ghost view = { λ u. u.lines.items };
-}
-
-impl UsingLines {
-    /// The line alone.
-    fn alone(alloc: Global, held: &HeldLine) -> Result<UsingLines, AllocError>
-        ensures { IfOk result (λ u. u ≡ held.now ∷ []) }
-    {
-        let mut lines = Vec::new(alloc);
-        lines.push(held.share()?)?;
-        Ok(UsingLines { lines, alloc })
-    }
-
-    /// Adds a line. On want of memory the lines stay as they were.
-    fn add(&mut self, held: &HeldLine) -> Result<(), AllocError>
-        ensures ok { OnOk result (self.new ≡ self.old ++ held.now ∷ []) }
-        ensures err { OnErr result (self.new ≡ self.old) }
-    {
-        let shared = held.share()?;
-        self.lines.push(shared)?;
-        Ok(())
-    }
-
-    /// Takes out a line that is equal to this one, and answers whether none is left.
-    fn take(&mut self, held: &HeldLine) -> bool
-        requires { (f : AclLine → ℕ) → f held.now ≤ sum_by f self.old }
-        ensures left { (f : AclLine → ℕ) → sum_by f self.old ≡ sum_by f self.new + f held.now }
-        ensures empty { result ≡ (length self.new == 0) }
-    {
-        let place = place_in(self.lines.as_slice(), held);
-        let _taken = self.lines.swap_remove(place);
-        self.lines.is_empty()
-    }
-}
-
-impl Clone for UsingLines {
-    ghost is_clone = { λ a b. b ≡ a };
-
-    fn clone(&self) -> Result<UsingLines, AllocError> {
-        Ok(UsingLines {
-            lines: share_lines(self.alloc, self.lines.as_slice())?,
-            alloc: self.alloc,
-        })
-    }
-}
 
 /// The lines that use each name; a name that no line uses isn't there.
 #[derive(Debug, Drop)]
@@ -269,13 +199,14 @@ impl NameLines {
 
     /// The lines that use a name.
     #[tactic(auto, unfolding(crate::specs::Uses::lines_of))]
-    pub(crate) fn lines_of(&self, name: &Name) -> &[HeldLine]
-        ensures { result.now ≡ spec.lines_of self.now name.now }
+    pub(crate) fn lines_of(&self, name: &Name) -> UsedLines<'_>
+        ensures value { result ≡ spec.lines_of self.now name.now }
+        ensures some { spec.AllCounted result }
     {
-        match self.lines.get(name) {
-            Some(using) => using.lines.as_slice(),
-            None => &[],
-        }
+        let Some(using) = self.lines.get(name) else {
+            return UsedLines::new();
+        };
+        using.lines()
     }
 
     /// Keeps one more line of each name that it uses. On want of memory the same lines are kept as before.

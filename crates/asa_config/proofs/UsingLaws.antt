@@ -1,11 +1,12 @@
 -- The pairs of a list are those of the lines that use one of some names and those of the others, which stay as they are
 -- where every other name stands for the same.
-use Rattle.std.proofs.Common.{◌≡◌, ℕ, ◌+◌, ◌-◌, ◌≤◌, ◌<◌, suc, length, take, get_or, Bool, true, false, not, cond, ◌||◌, List, [], ◌∷◌, ◌++◌, map, filter, Option, Some, None, Decides, refl, sym, ap, subst, ◌∙◌, arith}
+use Rattle.std.proofs.Common.{◌≡◌, ℕ, ◌+◌, ◌*◌, ◌-◌, ◌≤◌, ◌<◌, suc, length, take, get_or, Bool, true, false, not, cond, ◌||◌, List, [], ◌∷◌, ◌++◌, map, filter, Option, Some, None, Decides, refl, sym, ap, subst, ◌∙◌, arith}
 use Rattle.std.specs.List.{list_any, sum_by}
 use Rattle.std.specs.Str.{bytes_eq}
 use Rattle.std.proofs.lemmas.Slice.Eq.{bytes_eq-Decides}
 use Rattle.std.proofs.lemmas.Bool.{false≢true, or_left, or_right}
 use Rattle.std.proofs.Math.Bool.{or-false}
+use Rattle.std.proofs.Math.Nat.{mul_comm}
 use Rattle.std.proofs.Math.Seq.{take-suc}
 use Rattle.std.proofs.lemmas.List.Sums.{sum_by-cons}
 use Rattle.std.proofs.lemmas.List.Folds.{list_any-append}
@@ -15,7 +16,7 @@ use Rattle.asa_ace.specs.declared.stating.AclLine.{AclLine}
 use Rattle.asa_ace.specs.declared.stating.AclLine.TheVariants as line
 use Rattle.asa_ace.specs.Lines.{is_named, ace_uses, line_uses}
 use Rattle.asa_acl.specs.Lists.{AccessLines, list_uses}
-use Rattle.asa_acl.specs.Uses.{places}
+use Rattle.asa_acl.specs.Uses.{counted, places}
 use Rattle.asa_acl.proofs.UseLaws.{uses_places}
 use Rattle.asa_boxes.specs.Meanings.{Meanings}
 use Rattle.asa_boxes.specs.Pairs.{line_pairs, list_pairs}
@@ -109,6 +110,18 @@ sum_filter p f (x ∷ xs) = by (p x) (sum_filter p f xs) ∙ sym (sum_by-cons (�
         → sum_by f (cond b (x ∷ filter p xs) (filter p xs)) ≡ cond b (f x) 0 + sum_by (λ x. cond (p x) (f x) 0) xs
     by true rest = sum_by-cons f x (filter p xs) ∙ ap (λ n. f x + n) rest
     by false rest = rest ∙ and_zero _
+
+-- lines that are counted, one further
+pub counted_next : (f : AclLine → ℕ) (all rest next : List (AclLine × ℕ)) (l read : AclLine) (c each more sum total : ℕ) → rest ≡ (l, c) ∷ next → read ≡ l → each ≡ f read → more ≡ each * c
+    → total ≡ sum + more → sum + counted f rest ≡ counted f all → total + counted f next ≡ counted f all
+counted_next f all rest next l read c each more sum total cut is told times made before =
+    let added : more ≡ c * f l = times ∙ ap (λ n. n * c) (told ∙ ap f is) ∙ mul_comm (f l) c in
+    let first : counted f rest ≡ c * f l + counted f next = ap (counted f) cut ∙ sum_by-cons (λ (e : AclLine × ℕ). e.1 * f e.0) (l, c) next in
+    omega (arith, added, first, made, before)
+
+-- and all of them
+pub counted_all : (f : AclLine → ℕ) (all rest : List (AclLine × ℕ)) (sum : ℕ) → rest ≡ [] → sum + counted f rest ≡ counted f all → sum ≡ counted f all
+counted_all f all rest sum none before = omega (arith, ap (counted f) none, before)
 
 -- the lines that use one more name
 pub used_more : (m : Meanings) (names : List (List ℕ)) (n : List ℕ) (ls : List AclLine) → used_pairs m (names ++ n ∷ []) ls ≡ used_pairs m names ls + further_pairs m n names ls

@@ -182,11 +182,12 @@ impl Config {
     pub(crate) fn step_object(self, block: &Block) -> Result<Config, EditRefusal>
         ensures { Gives result (spec.object_step self block.now) }
     {
-        let names = self.objects.reaching(self.alloc, block)?;
-        if self.lists_name(names.as_slice()) {
-            return self.define_used(block, names.as_slice());
+        let reaching = self.objects.reaching(self.alloc, block)?;
+        let names = reaching.get().as_slice();
+        if self.lists_name(names) {
+            return self.define_used(block, names);
         }
-        self.define_apart(block, names.as_slice())
+        self.define_apart(block, names)
     }
 
     /// Takes out an object or a group that nothing names.

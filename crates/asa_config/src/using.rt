@@ -1,5 +1,5 @@
 //! The prefix pairs of the lines that use one of some names, which are all that a change of these names counts anew.
-ghost use Rattle.std.specs.Prelude.{◌≡◌, ◌+◌, ℕ, List, IfOk, IfSome, filter, map};
+ghost use Rattle.std.specs.Prelude.{◌≡◌, ◌+◌, ◌*◌, ℕ, List, IfOk, IfSome, filter, map};
 ghost use Rattle.std.specs.Option.{option_copied};
 ghost use Rattle.asa_acl.specs.Lists.{list_uses};
 ghost use Rattle.asa_boxes.specs.Pairs.{list_pairs};
@@ -61,6 +61,16 @@ fn plus(a: u128, b: u128) -> Result<u128, AllocError>
     }
 }
 
+/// A number so many times. A product that passes its type's end counts as want of memory.
+fn times(n: u128, count: u32) -> Result<u128, AllocError>
+    ensures { IfOk result (λ p. p ≡ n * count) }
+{
+    match n.checked_mul(u128::from(count)) {
+        Some(product) => Ok(product),
+        None => Err(AllocError),
+    }
+}
+
 /// The pairs of a line, unless it uses one of the names.
 fn line_rest(
     alloc: Global,
@@ -87,8 +97,9 @@ fn further_pairs(
     ensures { IfOk result (λ n. n ≡ spec.further_pairs (meanings_in scope.now.objects.now scope.now.ifaces.now) name.now earlier.now.keys acl.now.lines) }
 {
     let mut sum = 0;
-    for held in acl.lines_using(name) {
-        sum = plus(sum, line_rest(alloc, scope, earlier, held.line())?)?;
+    for (held, count) in acl.lines_using(name).iter() {
+        let each = line_rest(alloc, scope, earlier, held.line())?;
+        sum = plus(sum, times(each, *count)?)?;
     }
     Ok(sum)
 }
