@@ -1,5 +1,5 @@
 -- The names that reach a name are found by the names that refer to each, by rising labels.
-use Rattle.std.proofs.Common.{◌≡◌, ℕ, ◌+◌, ◌<◌, ◌≤◌, ◌==◌, ◌⊎◌, inl, inr, suc, Bool, true, false, cond, ◌||◌, if◌then◌else◌, List, [], ◌∷◌, ◌++◌, length, Option, Some, None, is_some, refl, sym, ap, subst, ◌∙◌, arith}
+use Rattle.std.proofs.Common.{◌≡◌, ℕ, ◌+◌, ◌<◌, ◌≤◌, ◌==◌, ◌⊎◌, inl, inr, zero, suc, Bool, true, false, cond, ◌||◌, if◌then◌else◌, List, [], ◌∷◌, ◌++◌, length, get_or, Option, Some, None, is_some, refl, sym, ap, subst, ◌∙◌, arith}
 use Rattle.std.specs.List.{AllByRecursion, list_any}
 use Rattle.std.specs.Map.{lookup}
 use Rattle.std.specs.BTreeMap.{BTreeMap, is_at, get, Updates, IsLowerBound}
@@ -26,9 +26,6 @@ eq-true a b h = grind arith
 
 eq-self : (a : ℕ) → (a == a) ≡ true
 eq-self a = grind arith
-
-eq-other : (a b : ℕ) → (a == b) ≡ false → (a ≡ b → ⊥)
-eq-other a b h e = false≢true (sym h ∙ ap (λ (x : ℕ). x == b) e ∙ eq-self b)
 
 pub or-left : (a b : Bool) → a ≡ true → (a || b) ≡ true
 or-left a b h = ap (λ x. x || b) h
@@ -199,6 +196,13 @@ pub all-push : {X : Type 0} (P : X → Type 0) (xs : List X) (x : X) → AllByRe
 all-push P [] x all one = (one, tt)
 all-push P (y ∷ ys) x all one = (all.0, all-push P ys x all.1 one)
 
+-- what holds of all elements holds of each
+pub all-at : {X : Type 0} (P : X → Type 0) (xs : List X) (i : ℕ) (d : X) → i < length xs → AllByRecursion P xs → P (get_or xs i d)
+all-at P [] i d lt all = absurd (omega arith)
+all-at P (x ∷ xs) zero d lt all = all.0
+all-at P (x ∷ xs) (suc i) d lt all = all-at P xs i d (omega arith) all.1
+
+-- what follows of each follows of all
 pub all-weaker : {X : Type 0} (P Q : X → Type 0) → ((x : X) → P x → Q x) → (xs : List X) → AllByRecursion P xs → AllByRecursion Q xs
 all-weaker P Q f [] all = tt
 all-weaker P Q f (x ∷ xs) all = (f x all.0, all-weaker P Q f xs all.1)

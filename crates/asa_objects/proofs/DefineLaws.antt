@@ -1,18 +1,19 @@
 -- What a block makes of a name that is in the table.
-use Rattle.std.proofs.Common.{◌≡◌, ℕ, ◌+◌, ◌<◌, ◌≤◌, Bool, true, false, ◌&&◌, nat_le, if◌then◌else◌, List, [], ◌∷◌, length, Option, None, Some, IsSomeAnd, Result, Ok, Err, refl, sym, ap, subst, ◌∙◌, arith}
+use Rattle.std.proofs.Common.{◌≡◌, ℕ, ◌+◌, ◌<◌, ◌≤◌, Bool, true, false, ◌&&◌, nat_le, if◌then◌else◌, List, [], ◌∷◌, length, Option, None, Some, is_some, IsSomeAnd, Result, Ok, Err, refl, sym, ap, subst, ◌∙◌, arith}
 use Rattle.std.specs.List.{list_all}
 use Rattle.std.proofs.lemmas.Bool.{le-leb, leb-true}
 use Rattle.asa_text.specs.declared.grouping.Block.{Block}
 use Rattle.asa_members.specs.declared.blocking.BlockKind.{BlockKind}
 use Rattle.asa_members.specs.declared.stating.Item.{Item}
 use Rattle.asa_members.specs.declared.topping.Top.{Top}
+use Rattle.asa_objects.specs.declared.drafting.Change.{Change}
 use Rattle.asa_objects.specs.declared.faults.ObjectFault.{ObjectFault}
 use Rattle.asa_objects.specs.declared.faults.ObjectFault.TheVariants as fault
 use Rattle.asa_objects.specs.Tables.{Entry, Table, entry_of, items_in, items_of, with_entry, services_of_name}
 use Rattle.asa_objects.specs.Ranks.{IsSound, Ranks, Uses}
 use Rattle.asa_objects.specs.Changing.{Replaces, changed_at, changed_in}
 use Rattle.asa_objects.specs.Defining.{Defines, and_then, are_small, is_small, limited, lacks_value, completed, changed_by, top_text}
-use Rattle.asa_objects.specs.Drafting.{drafted_by, Drafteds}
+use Rattle.asa_objects.specs.Drafting.{after_change, drafted_by, Drafteds, IsRead, Reads}
 use Rattle.asa_objects.specs.Marks.{changed}
 use Rattle.asa_objects.proofs.RankLaws.{kept-members, kept-services}
 
@@ -86,17 +87,29 @@ module _ (t : Table) (b : Block) (top : Top) (items : List Item) (drafted : draf
   define-replaced made is lacks h ranks uses stamp new (Err (fault.NotBuilt l)) sound replaces = absurd replaces
 
 -- a line is refused
-pub define-refused : (t : Table) (ranks : Ranks) (b : Block) (top : Top) (f : ObjectFault) → Drafteds t ranks b top (Err f) → Defines (Err f) t t (changed_by t b top)
+pub define-refused : (t : Table) (b : Block) (top : Top) (f : ObjectFault) → Drafteds t b top (Err f) → Reads t b top (Err f)
 unfolding changed_by
-define-refused t ranks b top fault.NoMemory h = refl
-define-refused t ranks b top fault.TooMany h = (ap (λ r. and_then r (λ xs. completed t top (length (top_text b) + 1) xs)) h, refl)
-define-refused t ranks b top fault.NameTaken h = (ap (λ r. and_then r (λ xs. completed t top (length (top_text b) + 1) xs)) h, refl)
-define-refused t ranks b top (fault.Unknown l c) h = (ap (λ r. and_then r (λ xs. completed t top (length (top_text b) + 1) xs)) h, refl)
-define-refused t ranks b top (fault.Bad l c) h = (ap (λ r. and_then r (λ xs. completed t top (length (top_text b) + 1) xs)) h, refl)
-define-refused t ranks b top (fault.Unsupported l c) h = (ap (λ r. and_then r (λ xs. completed t top (length (top_text b) + 1) xs)) h, refl)
-define-refused t ranks b top (fault.Cycle l) h = (ap (λ r. and_then r (λ xs. completed t top (length (top_text b) + 1) xs)) h, refl)
-define-refused t ranks b top (fault.NoSuchMember l) h = (ap (λ r. and_then r (λ xs. completed t top (length (top_text b) + 1) xs)) h, refl)
-define-refused t ranks b top (fault.NotBuilt l) h = (ap (λ r. and_then r (λ xs. completed t top (length (top_text b) + 1) xs)) h, refl)
+define-refused t b top fault.NoMemory h = tt
+define-refused t b top fault.TooMany h = ap (λ r. and_then r (λ xs. completed t top (length (top_text b) + 1) xs)) h
+define-refused t b top fault.NameTaken h = ap (λ r. and_then r (λ xs. completed t top (length (top_text b) + 1) xs)) h
+define-refused t b top (fault.Unknown l c) h = ap (λ r. and_then r (λ xs. completed t top (length (top_text b) + 1) xs)) h
+define-refused t b top (fault.Bad l c) h = ap (λ r. and_then r (λ xs. completed t top (length (top_text b) + 1) xs)) h
+define-refused t b top (fault.Unsupported l c) h = ap (λ r. and_then r (λ xs. completed t top (length (top_text b) + 1) xs)) h
+define-refused t b top (fault.Cycle l) h = ap (λ r. and_then r (λ xs. completed t top (length (top_text b) + 1) xs)) h
+define-refused t b top (fault.NoSuchMember l) h = ap (λ r. and_then r (λ xs. completed t top (length (top_text b) + 1) xs)) h
+define-refused t b top (fault.NotBuilt l) h = ap (λ r. and_then r (λ xs. completed t top (length (top_text b) + 1) xs)) h
+
+-- and with it the block
+pub read-refused : (t : Table) (b : Block) (top : Top) (f : ObjectFault) → Reads t b top (Err f) → Defines (Err f) t t (changed_by t b top)
+read-refused t b top fault.NoMemory h = refl
+read-refused t b top fault.TooMany h = (h, refl)
+read-refused t b top fault.NameTaken h = (h, refl)
+read-refused t b top (fault.Unknown l c) h = (h, refl)
+read-refused t b top (fault.Bad l c) h = (h, refl)
+read-refused t b top (fault.Unsupported l c) h = (h, refl)
+read-refused t b top (fault.Cycle l) h = (h, refl)
+read-refused t b top (fault.NoSuchMember l) h = (h, refl)
+read-refused t b top (fault.NotBuilt l) h = (h, refl)
 
 abbrev pub made_of : BlockKind → List Item → Entry
 made_of kind items = record { block = kind; items = items }
@@ -133,3 +146,19 @@ taken-is t name kind gone added there = by (entry_of t name) there
     by : (o : Option Entry) → IsSomeAnd o (λ e. e.block ≡ kind) → changed_in t name gone added o ≡ with_entry t name (made_of kind (changed (items_in o) gone added))
     by None h = absurd h
     by (Some e) h = ap (λ b. with_entry t name (made_of b (changed e.items gone added))) h
+
+-- what the change of the members that a block asks for answers
+pub read-replaced : (t : Table) (b : Block) (top : Top) (c : Change) → IsRead t b top c → IsSomeAnd (entry_of t top.name) (λ e. e.block ≡ top.block)
+    → (ranks : Ranks) (uses : Uses) (stamp : ℕ) (new : Table) (result : Result (Unit {0}) ObjectFault) → IsSound new ranks uses stamp → Replaces t new (changed_at t top.name c.gone.keys c.added) result
+    → Defines result t new (changed_by t b top)
+read-replaced t b top c read there ranks uses stamp new result sound replaces =
+    define-replaced t b top (after_change t top.name c) read.members (made_of top.block (after_change t top.name c)) refl read.has read.few ranks uses stamp new result sound
+    (subst (λ x. Replaces t new x result) (taken-is t top.name top.block c.gone.keys c.added there) replaces)
+
+-- a name whose block is told is there
+pub is-there : (t : Table) (top : Top) → IsSomeAnd (entry_of t top.name) (λ e. e.block ≡ top.block) → is_some (entry_of t top.name) ≡ true
+is-there t top there = by (entry_of t top.name) there
+  where
+    by : (o : Option Entry) → IsSomeAnd o (λ e. e.block ≡ top.block) → is_some o ≡ true
+    by None h = absurd h
+    by (Some e) h = refl

@@ -1,16 +1,17 @@
 -- Members of a draft, and those that are to go.
-use Rattle.std.proofs.Common.{◌≡◌, Bool, true, false, cond, not, ◌||◌, ◌&&◌, if◌then◌else◌, List, [], ◌∷◌, ◌++◌, length, Some, None, Result, Ok, Err, OnOk, OnErr, refl, sym, ap, subst, ◌∙◌, arith, append_assoc}
+use Rattle.std.proofs.Common.{◌≡◌, ℕ, Bool, true, false, cond, not, ◌||◌, ◌&&◌, if◌then◌else◌, List, [], ◌∷◌, ◌++◌, Option, Some, None, is_some, refl, sym, ap, subst, ◌∙◌}
 use Rattle.std.specs.Cmp.{IsEquivalence}
-use Rattle.std.specs.List.{filter, fold, list_all, AllByRecursion, IsDistinct, find}
-use Rattle.std.proofs.lemmas.List.{append-nil}
-use Rattle.indexmap.specs.IndexSet.{insert_key}
+use Rattle.std.specs.List.{filter, AllByRecursion, find, list_any}
+use Rattle.std.specs.Option.{option_to_list}
 use Rattle.std.proofs.lemmas.Map.Made.{is_member-filter}
 use Rattle.asa_members.specs.declared.stating.Item.{Item}
 use Rattle.asa_members.specs.contracts.stating.ItemEq.TheImpl.Laws as item_laws
 use Rattle.asa_objects.specs.Defining.{same_item, has_item, with_item, without_item}
-use Rattle.asa_objects.specs.Marks.{AreDistinct, AreFormer, AreNew, is_none, standing}
+use Rattle.asa_objects.specs.Ranks.{refs_in}
+use Rattle.asa_objects.specs.Tables.{named}
+use Rattle.asa_objects.specs.Marks.{AreDistinct, AreFormer, AreNew, standing}
 use Rattle.asa_objects.proofs.ReachLaws.{any-append}
-use Rattle.asa_objects.proofs.ClimbLaws.{all-push, or-left, or-right}
+use Rattle.asa_objects.proofs.ClimbLaws.{all-push}
 
 or-none : (b : Bool) → (b || false) ≡ b
 or-none true = refl
@@ -251,3 +252,16 @@ new-alone items gone added i none is = subst (AreNew (standing items gone)) (sym
 
 pub stands-alone : (items gone added : List Item) (i : Item) → standing items gone ≡ [] → added ≡ i ∷ [] → standing items gone ++ added ≡ i ∷ []
 stands-alone items gone added i none is = ap (λ xs. xs ++ added) none ∙ is
+
+pub not-true : (b : Bool) → not b ≡ true → b ≡ false
+not-true false h = refl
+not-true true h = absurd (cc)
+
+-- members of which none refers to a name
+pub no-refs : (xs : List Item) → list_any (λ i. is_some (named i)) xs ≡ false → refs_in xs ≡ []
+no-refs [] h = refl
+no-refs (x ∷ xs) h = by (named x) h (λ more. no-refs xs more)
+  where
+    by : (o : Option (List ℕ)) → (is_some o || list_any (λ i. is_some (named i)) xs) ≡ false → (list_any (λ i. is_some (named i)) xs ≡ false → refs_in xs ≡ []) → option_to_list o ++ refs_in xs ≡ []
+    by None e more = more e
+    by (Some c) e more = absurd (cc)

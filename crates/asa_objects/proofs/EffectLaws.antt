@@ -6,9 +6,9 @@ use Rattle.asa_members.specs.declared.blocking.GroupKind.{GroupKind}
 use Rattle.asa_members.specs.declared.stating.Item.{Item}
 use Rattle.asa_members.specs.declared.stating.Item.TheVariants as item
 use Rattle.asa_objects.specs.Defining.{has_item, same_item}
-use Rattle.asa_objects.specs.Ranks.{Part, members, prefixes, services, amount, amount_of, own_totals, no_totals, Ranks, rank_of}
+use Rattle.asa_objects.specs.Ranks.{Part, members, prefixes, services, amount, amount_of, own_totals, Ranks, rank_of}
 use Rattle.asa_objects.specs.Spreads.{total, weight_of}
-use Rattle.asa_objects.specs.Tables.{named, refers_to, same_name}
+use Rattle.asa_objects.specs.Tables.{named, refers_to}
 use Rattle.asa_objects.specs.Weighing.{kept_of, weights}
 use Rattle.asa_objects.proofs.TotalLaws.{amount-rank}
 

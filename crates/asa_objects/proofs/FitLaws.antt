@@ -95,7 +95,7 @@ module _ (t : Table) (name : List ℕ) where
 
   module _ (ranks : Ranks) (uses : Uses) (stamp : ℕ) (sound : IsSound t ranks uses stamp) where
     -- a name that reaches another has no lesser label
-    above-it : (q : List ℕ) → reaches t q name ≡ true → label_of ranks name ≤ label_of ranks q
+    pub above-it : (q : List ℕ) → reaches t q name ≡ true → label_of ranks name ≤ label_of ranks q
     above-it q r =
         let ok = labelled t ranks uses stamp sound in
         leb-true (label_of ranks name) (label_of ranks q)

@@ -13,7 +13,7 @@ use Rattle.asa_objects.specs.declared.faults.ObjectFault.TheVariants as fault
 use Rattle.asa_objects.specs.Spreads.{of_name, spread}
 use Rattle.asa_objects.specs.Tables.{Entry, Table, entry_of, items_in, items_of, named, own_members, group_at, reaches, refers_to, same_name, with_entry, without_name}
 use Rattle.asa_objects.specs.Ranks.{IsSound, Ranks, Uses, label_of}
-use Rattle.asa_objects.specs.Defining.{and_then, read_at, top_text, is_within, limited, lacks_value, completed, begun, opened, opened_from, same_block, changed_by, defined_by, defined, Defines}
+use Rattle.asa_objects.specs.Defining.{and_then, read_at, top_text, is_within, limited, lacks_value, completed, begun, opened, opened_from, same_block, changed_by, defined_by, Defines}
 use Rattle.asa_objects.specs.Keeping.{IsKept, KeepsApart, KeepsOthers, KeepsRest}
 use Rattle.asa_objects.proofs.SpreadLaws.{Below, Falls, Among, flat_map-same}
 use Rattle.asa_objects.proofs.LabelLaws.{same-is}
@@ -144,12 +144,6 @@ defined-apart old new b top h q apart =
     let open_ = then-ok (opened old top) (λ start. changed_by start b top) new h in
     changed-apart open_.0 new b top open_.2 q apart ∙ opened-apart old open_.0 top (entry_of old top.name) open_.1 q apart
 
--- so the names that don't reach its name stand for the same
-pub defined-keeps : (old new : Table) (before after : List ℕ → ℕ) → IsLabelled old before → IsLabelled new after → (b : Block) → defined old b ≡ Ok new → KeepsOthers old new b
-unfolding defined
-defined-keeps old new before after was is b h top read =
-    kept-apart old new before after was is top.name (defined-apart old new b top (ap (λ r. and_then r (λ x. defined_by old b x)) (sym read) ∙ h))
-
 -- a table without a name has the other ones
 pub gone-apart : (t : Table) (name q : List ℕ) → same_name name q ≡ false → entry_of (without_name t name) q ≡ entry_of t q
 gone-apart [] name q apart = refl
@@ -159,12 +153,7 @@ gone-apart (e ∷ es) name q apart = by (same_name name e.0) refl (gone-apart es
     by false same more = ap (λ (o : Option Entry). cond (same_name q e.0) (Some e.1) o) more
     by true same more = sym (ap (λ (c : Bool). cond c (Some e.1) (entry_of es q)) (ap (same_name q) (sym (same-is name e.0 same)) ∙ same-sym q name ∙ apart))
 
--- a name that no name refers to goes
-pub gone-keeps : (old : Table) (before after : List ℕ → ℕ) (name : List ℕ) → IsLabelled old before → IsLabelled (without_name old name) after → ((q : List ℕ) → list_any (refers_to name) (items_of old q) ≡ false)
-    → KeepsRest old (without_name old name) name
-gone-keeps old before after name was is unused = kept-rest old (without_name old name) before after was is name (λ q apart. gone-apart old name q apart) unused
-
--- the same of what the code keeps of a table before and after a block
+-- so the names that don't reach its name stand for the same, by what the code keeps of the table before and after the block
 pub define-keeps : (old new : Table) (ranks ranks2 : Ranks) (uses uses2 : Uses) (stamp stamp2 : ℕ) → IsSound old ranks uses stamp → IsSound new ranks2 uses2 stamp2 → (b : Block) (top : Top)
     → read_at 1 (top_at (line_left (top_text b))) ≡ Ok top → (result : Result (Unit {0}) ObjectFault) → Defines result old new (defined_by old b top) → OnOk result (KeepsOthers old new b)
 define-keeps old new ranks ranks2 uses uses2 stamp stamp2 was is b top read (Ok u) h = λ other there.

@@ -1,13 +1,15 @@
 -- A label of names makes a number below the length of the table, by counting the names of lesser labels.
-use Rattle.std.proofs.Common.{◌≡◌, ℕ, ◌+◌, ◌<◌, ◌≤◌, suc, Bool, true, false, cond, nat_lt, if◌then◌else◌, List, [], ◌∷◌, length, Option, Some, None, refl, sym, ap, ◌∙◌, arith}
+use Rattle.std.proofs.Common.{◌≡◌, ℕ, ◌+◌, ◌<◌, ◌≤◌, suc, Bool, true, false, cond, Decides, nat_lt, if◌then◌else◌, List, [], ◌∷◌, length, Option, Some, None, refl, sym, ap, subst, ◌∙◌, arith}
 use Rattle.std.specs.List.{AllByRecursion}
 use Rattle.std.specs.Map.{lookup}
+use Rattle.std.specs.Str.{bytes_eq}
 use Rattle.std.specs.BTreeMap.{is_at}
 use Rattle.std.specs.Ordering.{nat_cmp, is_eq}
 use Rattle.std.specs.Cmp.Lexicographic.{slice_cmp}
-use Rattle.std.proofs.lemmas.Bool.{lt-ltb, ltb-true, ltb-false}
+use Rattle.std.proofs.lemmas.Bool.{false≢true, lt-ltb, ltb-true, ltb-false}
 use Rattle.std.proofs.lemmas.Map.Lookups.{exact_bytes}
 use Rattle.std.proofs.lemmas.Map.Views.{tells_apart}
+use Rattle.std.proofs.lemmas.Slice.Eq.{bytes_eq-Decides}
 use Rattle.std.proofs.lemmas.Cmp.{nat_list_cmp_total, tied_itself}
 use Rattle.asa_objects.specs.Spreads.{total}
 use Rattle.asa_objects.specs.Tables.{same_name}
@@ -19,6 +21,22 @@ same-is a b h = tells_apart exact_bytes a b h
 
 pub same-self : (a : List ℕ) → same_name a a ≡ true
 same-self a = ap is_eq (tied_itself nat_list_cmp_total a)
+
+-- both tests of names say the same
+pub same-bytes : (a b : List ℕ) → same_name a b ≡ bytes_eq a b
+same-bytes a b = by (same_name a b) (bytes_eq a b) (same-is a b) (λ e. subst (λ n. same_name a n ≡ true) e (same-self a)) (bytes_eq-Decides a b)
+  where
+    by : (x y : Bool) → (x ≡ true → a ≡ b) → (a ≡ b → x ≡ true) → Decides y (a ≡ b) → x ≡ y
+    by true true f g d = refl
+    by false false f g d = refl
+    by true false f g d = absurd (false≢true (d.1 (f refl)))
+    by false true f g d = absurd (false≢true (g (d.0 refl)))
+
+-- look-ups of which one name's gives another value
+pub changed-at : {V : Type 0} (old new : List (List ℕ × V)) (key name : List ℕ) (w : Option V) → key ≡ name → ((q : List ℕ) → lookup (bytes_eq q) new ≡ cond (bytes_eq key q) w (lookup (bytes_eq q) old))
+    → (q : List ℕ) → lookup (bytes_eq q) new ≡ cond (same_name name q) w (lookup (bytes_eq q) old)
+changed-at old new key name w same h q =
+    h q ∙ ap (λ (k : List ℕ). cond (bytes_eq k q) w (lookup (bytes_eq q) old)) same ∙ ap (λ (b : Bool). cond b w (lookup (bytes_eq q) old)) (sym (same-bytes name q))
 
 not-below : (n : ℕ) → nat_lt n n ≡ false
 not-below n = by (nat_lt n n) (ltb-true n n)

@@ -1,5 +1,6 @@
 pub mod SpreadLaws
 pub mod LabelLaws
+pub mod PlaceLaws
 pub mod ReachLaws
 pub mod RankLaws
 pub mod ClimbLaws
@@ -26,3 +27,7 @@ pub mod EffectLaws
 pub mod MoveLaws
 pub mod OrderLaws
 pub mod PassLaws
+pub mod ByLaws
+pub mod StayLaws
+pub mod WayLaws
+pub mod SettleLaws

@@ -10,7 +10,8 @@ use Rattle.asa_objects.proofs.RankLaws.{labelled, number, number-falls, number-f
 use Rattle.asa_objects.proofs.UseLaws.{same-sym}
 use Rattle.asa_objects.proofs.OpenLaws.{no-users}
 
-none-of : {X : Type 0} (o : Option X) → is_some o ≡ false → o ≡ None
+-- nothing is there
+pub none-of : {X : Type 0} (o : Option X) → is_some o ≡ false → o ≡ None
 none-of None h = refl
 none-of (Some x) h = absurd (cc)
 

@@ -1,17 +1,19 @@
 -- The members of a name change: the totals that it then has, and who uses what.
-use Rattle.std.proofs.Common.{◌≡◌, ℕ, ◌+◌, Bool, true, false, cond, not, ◌||◌, ◌&&◌, List, [], ◌∷◌, ◌++◌, Option, Some, None, Ok, Err, is_some, refl, sym, ap, subst, ◌∙◌, arith}
+use Rattle.std.proofs.Common.{◌≡◌, ℕ, ◌+◌, Bool, true, false, cond, not, ◌||◌, ◌&&◌, List, [], ◌∷◌, Option, Some, None, Err, is_some, refl, sym, ap, subst, ◌∙◌, arith}
 use Rattle.std.specs.List.{AllByRecursion, list_any}
 use Rattle.asa_members.specs.declared.stating.Item.{Item}
 use Rattle.asa_objects.specs.Amounts.{Amounts}
-use Rattle.asa_objects.specs.declared.totaling.Renewed.{Renewed}
+use Rattle.asa_objects.specs.declared.reaching.Way.{Way}
 use Rattle.asa_objects.specs.declared.faults.ObjectFault.{ObjectFault}
+use Rattle.asa_objects.specs.declared.faults.ObjectFault.TheVariants as fault
 use Rattle.asa_objects.specs.Spreads.{total, weight_of}
 use Rattle.asa_objects.specs.Tables.{Entry, Table, entry_of, group_at, group_of, items_in, items_of, named, refers_to, same_name, with_entry}
 use Rattle.asa_objects.specs.Defining.{has_item, same_item}
 use Rattle.asa_objects.specs.Marks.{AreDistinct, AreFormer, changed, changed_entry, standing}
-use Rattle.asa_objects.specs.Ranks.{IsSound, Part, amount, amount_of, Ranks, Uses, rank_of, users_of, has_name, own_totals, both_totals, refs_in}
+use Rattle.asa_objects.specs.Ranks.{IsSound, amount, amount_of, Ranks, Uses, rank_of, users_of, has_name, own_totals, both_totals, refs_in}
 use Rattle.asa_objects.specs.Climbing.{IsAbove}
-use Rattle.asa_objects.specs.Totalling.{newer, totals_in_rank, AreSums, IsTold, Renews}
+use Rattle.asa_objects.specs.Totalling.{newer, totals_in_rank, AreSmall, AreSums, IsRenewed, IsTold, Renews}
+use Rattle.asa_objects.specs.Reaching.{RenewsBy, names_in}
 use Rattle.asa_objects.specs.Using.{AreUsed, AreUnused, unused_in}
 use Rattle.asa_objects.specs.Changing.{Fits, Replaces, changed_at, changed_in, freed_by}
 use Rattle.asa_objects.specs.Weighing.{weights}
@@ -27,7 +29,7 @@ use Rattle.asa_objects.proofs.EffectLaws.{weights-amount}
 use Rattle.asa_objects.proofs.StandingLaws.{same-named, total-standing}
 
 -- a member that is to go refers to what an equal one refers to
-gone-refers : (c : List ℕ) (gone : List Item) (x : Item) → has_item gone x ≡ true → refers_to c x ≡ true → list_any (refers_to c) gone ≡ true
+pub gone-refers : (c : List ℕ) (gone : List Item) (x : Item) → has_item gone x ≡ true → refers_to c x ≡ true → list_any (refers_to c) gone ≡ true
 gone-refers c [] x h refers = absurd (cc)
 gone-refers c (g ∷ gs) x h refers = by (same_item x g) (λ s. same-named x g s) h (λ more. gone-refers c gs x more refers)
   where
@@ -40,7 +42,7 @@ gone-refers c (g ∷ gs) x h refers = by (same_item x g) (λ s. same-named x g s
     by false is h more = or-true (refers_to c g) (list_any (refers_to c) gs) (more h)
 
 -- what passes a test stands, or is gone
-stands-or-gone : (p : Item → Bool) (xs gone : List Item) → ((x : Item) → has_item gone x ≡ true → p x ≡ true → list_any p gone ≡ true) → list_any p xs ≡ true
+pub stands-or-gone : (p : Item → Bool) (xs gone : List Item) → ((x : Item) → has_item gone x ≡ true → p x ≡ true → list_any p gone ≡ true) → list_any p xs ≡ true
     → (list_any p (standing xs gone) || list_any p gone) ≡ true
 stands-or-gone p [] gone goes h = absurd (cc)
 stands-or-gone p (x ∷ xs) gone goes h = by (has_item gone x) refl (p x) refl h (λ more. stands-or-gone p xs gone goes more)
@@ -61,7 +63,7 @@ stands-or-gone p (x ∷ xs) gone goes h = by (has_item gone x) refl (p x) refl h
     by false there false e h more = either (p x) (list_any p (standing xs gone)) (list_any p gone) (more h)
 
 -- what stands was there
-stood : (p : Item → Bool) (xs gone : List Item) → list_any p (standing xs gone) ≡ true → list_any p xs ≡ true
+pub stood : (p : Item → Bool) (xs gone : List Item) → list_any p (standing xs gone) ≡ true → list_any p xs ≡ true
 stood p [] gone h = h
 stood p (x ∷ xs) gone h = by (has_item gone x) h (λ more. stood p xs gone more)
   where
@@ -94,7 +96,7 @@ bool-moved false false false g h i = refl
 module _ (t : Table) (ranks : Ranks) (uses : Uses) (stamp : ℕ) (name : List ℕ) (gone added : List Item) (names : List (List ℕ)) (sound : IsSound t ranks uses stamp)
     (above : IsAbove t ranks name names) (fits : AllByRecursion (λ i. Fits t name (named i)) (changed (items_of t name) gone added)) where
   module _ (e : Entry) (found : entry_of t name ≡ Some e) where
-    move-change : IsChange t (with_entry t name (changed_entry e gone added)) ranks uses stamp name (changed_entry e gone added) names
+    pub move-change : IsChange t (with_entry t name (changed_entry e gone added)) ranks uses stamp name (changed_entry e gone added) names
     move-change = record {
       sound = sound;
       was = ap is_some found;
@@ -124,7 +126,7 @@ module _ (t : Table) (ranks : Ranks) (uses : Uses) (stamp : ℕ) (name : List �
         let is-sum : amount k told ≡ total (λ i. amount k (own_totals (group_of e.block) i) + weight_of (amount_of k ranks) (named i)) (changed e.items gone added) = omega arith in
         is-sum ∙ ap (λ (o : Option Entry). total (λ i. amount k (own_totals (group_at o) i) + weight_of (amount_of k ranks) (named i)) (items_in o)) (sym at-name)
 
-    used-moved : (mid uses2 : Uses) → AreUsed uses mid name (refs_in added) → AreUnused mid uses2 name (freed_by e.items gone added)
+    pub used-moved : (mid uses2 : Uses) → AreUsed uses mid name (refs_in added) → AreUnused mid uses2 name (freed_by e.items gone added)
         → (c u : List ℕ) → has_name (users_of uses2 c) u ≡ list_any (refers_to c) (items_of (with_entry t name (changed_entry e gone added)) u)
     used-moved mid uses2 used unused c u =
         unused c u ∙ ap (λ b. b && not (same_name name u && has_name (freed_by e.items gone added) c)) (used c u) ∙ by (same_name name u) refl (entry-put t name (changed_entry e gone added) u)
@@ -175,13 +177,25 @@ module _ (t : Table) (ranks : Ranks) (uses : Uses) (stamp : ℕ) (name : List �
     move-refused f h = subst (λ x. Replaces t t x (Err f)) same
         (change-refused t _ ranks uses stamp name (changed_entry there.0 gone added) names f (move-change there.0 there.1) (subst (λ x. Renews x ranks stamp names (Err f)) (sym same) h))
 
-    pub move-sound : (x : Renewed) → Renews (changed_at t name gone added) ranks stamp names (Ok x) → (ranks2 : Ranks) → ((q : List ℕ) → rank_of ranks2 q ≡ newer (rank_of x.ranks.entries q) (rank_of ranks q))
+    pub move-sound : (new : Ranks) (label : ℕ) → IsRenewed (changed_at t name gone added) ranks stamp names new label → AreSmall new → (ranks2 : Ranks) → ((q : List ℕ) → rank_of ranks2 q ≡ newer (rank_of new q) (rank_of ranks q))
         → (mid uses2 : Uses) → AreUsed uses mid name (unused_in uses (refs_in added) name) → AreUnused mid uses2 name (freed_by (items_of t name) gone added)
-        → IsSound (changed_at t name gone added) ranks2 uses2 x.label
-    move-sound x h ranks2 now mid uses2 used unused = subst (λ y. IsSound y ranks2 uses2 x.label) same
-        (by (subst (λ y. Renews y ranks stamp names (Ok x)) (sym same) h))
+        → IsSound (changed_at t name gone added) ranks2 uses2 label
+    move-sound new label renewed small ranks2 now mid uses2 used unused = subst (λ y. IsSound y ranks2 uses2 label) same
+        (by (subst (λ y. IsRenewed y ranks stamp names new label) (sym same) renewed))
       where
-        by : Renews (with_entry t name (changed_entry there.0 gone added)) ranks stamp names (Ok x) → IsSound (with_entry t name (changed_entry there.0 gone added)) ranks2 uses2 x.label
-        by g = change-sound t _ ranks uses stamp name (changed_entry there.0 gone added) names (move-change there.0 there.1) x.ranks.entries ranks2 x.label g.0 g.1 now uses2
+        by : IsRenewed (with_entry t name (changed_entry there.0 gone added)) ranks stamp names new label → IsSound (with_entry t name (changed_entry there.0 gone added)) ranks2 uses2 label
+        by g = change-sound t _ ranks uses stamp name (changed_entry there.0 gone added) names (move-change there.0 there.1) new ranks2 label g small now uses2
             (used-moved there.0 there.1 mid uses2 (used-all uses mid name (refs_in added) used)
             (subst (λ (o : Option Entry). AreUnused mid uses2 name (freed_by (items_in o) gone added)) there.1 unused))
+
+-- what ways tell of a refusal, the names that they lead from tell
+pub by-refused : (t : Table) (ranks : Ranks) (stamp : ℕ) (ways : List Way) (f : ObjectFault) → RenewsBy t ranks stamp ways (Err f) → Renews t ranks stamp (names_in ways) (Err f)
+by-refused t ranks stamp ways fault.TooMany h = h
+by-refused t ranks stamp ways fault.NoMemory h = tt
+by-refused t ranks stamp ways fault.NameTaken h = h
+by-refused t ranks stamp ways (fault.Unknown l c) h = h
+by-refused t ranks stamp ways (fault.Bad l c) h = h
+by-refused t ranks stamp ways (fault.Unsupported l c) h = h
+by-refused t ranks stamp ways (fault.Cycle l) h = h
+by-refused t ranks stamp ways (fault.NoSuchMember l) h = h
+by-refused t ranks stamp ways (fault.NotBuilt l) h = h

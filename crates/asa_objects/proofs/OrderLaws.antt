@@ -293,9 +293,6 @@ pub pushed-values : (order made-order : Numbered) (next : ℕ) (i : Item) → Ar
 pushed-values order made-order next i below is = ap values_of (is ∙ insert-last order next i below) ∙ values-append order ((next, i) ∷ [])
 
 -- one more of the members is placed
-pub placed-start : (old : Numbered) (first : ℕ) (all : List Item) → AreBelow first old → ArePlaced old old first first all all
-placed-start old first all below = record { whole = refl; early = below; many = refl; after = omega arith; left = refl }
-
 pub placed-more : (old now made : Numbered) (first number : ℕ) (all rest : List Item) (i : Item) → ArePlaced old now first number all (i ∷ rest) → made ≡ now ++ (number, i) ∷ [] → ArePlaced old made first (number + 1) all rest
 placed-more old now made first number all rest i was is = subst (λ es. ArePlaced old es first (number + 1) all rest) (sym is) (record {
   whole = append_assoc now ((number, i) ∷ []) (numbered (number + 1) rest) ∙ was.whole;
@@ -304,9 +301,6 @@ placed-more old now made first number all rest i was is = subst (λ es. ArePlace
   after = omega (arith, was.after);
   left = omega (arith, was.left);
 })
-
-pub placed-end : (old now : Numbered) (first number : ℕ) (all rest : List Item) → ArePlaced old now first number all rest → rest ≡ [] → now ≡ old ++ numbered first all
-placed-end old now first number all rest was none = sym (ap (λ xs. now ++ numbered number xs) none ∙ append-nil now) ∙ was.whole
 
 -- what was placed is taken away again
 pub placed-undone : (old now : Numbered) (first number : ℕ) (all rest : List Item) → ArePlaced old now first number all rest → take (length now - (number - first)) now ≡ old
@@ -343,10 +337,6 @@ noted-more old now made first number all rest i was put = record {
     by q true same =
         ap (λ o. or_number o (Some number)) (absent q same) ∙ sym (ap (λ b. or_number (cond b (Some number) (number_of (numbered (number + 1) rest) q)) (lookup (same_item q) now)) same)
     by q false apart = sym (ap (λ b. or_number (cond b (Some number) (number_of (numbered (number + 1) rest) q)) (lookup (same_item q) now)) apart)
-
-pub noted-end : (old now : List (Item × ℕ)) (first number : ℕ) (all rest : List Item) → AreNoted old now first number all rest → rest ≡ []
-    → (q : Item) → lookup (same_item q) now ≡ or_number (number_of (numbered first all) q) (lookup (same_item q) old)
-noted-end old now first number all rest was none q = sym (ap (λ xs. or_number (number_of (numbered number xs) q) (lookup (same_item q) now)) none) ∙ was.known q
 
 stands-less : (gone more : List Item) (d : Item) → ((k : Item) → has_item more k ≡ cond (same_item d k) true (has_item gone k)) → (items : List Item) → standing items more ≡ without_item (standing items gone) d
 stands-less gone more d put [] = refl

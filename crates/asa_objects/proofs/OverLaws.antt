@@ -14,7 +14,7 @@ use Rattle.asa_objects.specs.Climbing.{Rises}
 use Rattle.asa_objects.specs.Totalling.{newer, amount_now, summed, AreSums, IsInner, IsLaid, IsRenewed, IsOver, IsOverfull}
 use Rattle.asa_objects.specs.Defining.{is_small, are_small}
 use Rattle.asa_objects.proofs.SpreadLaws.{Among}
-use Rattle.asa_objects.proofs.LabelLaws.{same-is, same-self}
+use Rattle.asa_objects.proofs.LabelLaws.{same-is, same-self, same-bytes}
 use Rattle.asa_objects.proofs.ReachLaws.{any-append}
 use Rattle.asa_objects.proofs.RankLaws.{IsLabelled, IsSummed, members-kept, services-kept}
 use Rattle.asa_objects.proofs.ClimbLaws.{all-has, or-left, or-right, or-cases}
@@ -201,7 +201,7 @@ over-false t after ranks uses stamp name made names change o =
     sums services = refl
 
     put : (q : List ℕ) → rank_of new q ≡ cond (same_name o.name q) (Some (record { label = o.label; totals = totals })) (rank_of o.new q)
-    put q = ap (λ (b : Bool). cond b (Some (record { label = o.label; totals = totals })) (rank_of o.new q)) (same-sym q o.name)
+    put q = ap (λ (b : Bool). cond b (Some (record { label = o.label; totals = totals })) (rank_of o.new q)) (sym (same-bytes q o.name) ∙ same-sym q o.name)
 
     renewed : IsRenewed after ranks stamp (o.before ++ o.name ∷ []) new (o.label + 1)
     renewed = renew-step after ranks stamp o.before o.name o.after (subst (IsLaid after ranks) o.split (laid t after ranks uses stamp name made names change)) o.new new o.label totals o.renewed sums put

@@ -1,6 +1,6 @@
 -- The difference between the new totals of a name and its old ones goes to the names that refer to it.
-use Rattle.std.proofs.Common.{◌≡◌, ℕ, ◌+◌, ◌*◌, ◌<◌, ◌≤◌, suc, Bool, true, false, cond, ◌||◌, List, [], ◌∷◌, Option, Some, None, Result, Ok, Err, IfSome, OnOk, refl, sym, ap, subst, ◌∙◌, arith}
-use Rattle.std.specs.List.{AllByRecursion, IsDistinct, list_any}
+use Rattle.std.proofs.Common.{◌≡◌, ℕ, ◌+◌, ◌*◌, Bool, true, false, cond, ◌||◌, List, [], ◌∷◌, Option, Some, None, Result, Ok, Err, IfSome, OnOk, refl, sym, ap, subst, ◌∙◌, arith}
+use Rattle.std.specs.List.{AllByRecursion, list_any}
 use Rattle.std.specs.List.Sorted.{IsStrictlySortedBy}
 use Rattle.std.specs.Ordering.{nat_cmp, is_eq}
 use Rattle.std.specs.declared.cmp.Ordering.{Ordering}
@@ -16,21 +16,10 @@ use Rattle.asa_objects.specs.Defining.{has_item, same_item}
 use Rattle.asa_objects.specs.Marks.{AreDistinct}
 use Rattle.asa_objects.specs.Ranks.{IsSound, Part, members, prefixes, services, amount, amount_in, amount_of, Ranks, Uses, rank_of, users_of, has_name, weigh, own_totals}
 use Rattle.asa_objects.specs.Totalling.{newer, amount_now, totals_in_rank, summed, times, times_among, Running, sum_of, or_old, sum_now, AreMoved, ArePassed, AreRunning, IsTold}
-use Rattle.asa_objects.proofs.LabelLaws.{same-is, same-self}
+use Rattle.asa_objects.proofs.LabelLaws.{same-is}
 use Rattle.asa_objects.proofs.ReachLaws.{test_of}
 use Rattle.asa_objects.proofs.TotalLaws.{amount-rank}
 use Rattle.asa_objects.proofs.UseLaws.{same-sym}
-use Rattle.asa_objects.proofs.DraftLaws.{has-alike}
-
--- no member stands twice
-apart-from : (x : Item) (xs : List Item) → AllByRecursion (λ y. same_item x y ≡ false) xs → has_item xs x ≡ false
-apart-from x [] all = refl
-apart-from x (y ∷ ys) all = ap (λ b. b || has_item ys x) all.0 ∙ apart-from x ys all.1
-
-pub distinct-from : (xs : List Item) → IsDistinct same_item xs → AreDistinct xs
-unfolding IsDistinct
-distinct-from [] h = tt
-distinct-from (x ∷ xs) h = (apart-from x xs h.0, distinct-from xs h.1)
 
 -- equal names are the same
 pub equal-names : (a b : List ℕ) → same_item (item.Object a) (item.Object b) ≡ same_name a b
@@ -75,7 +64,7 @@ times-code n m o xs a b c d apart same alike first second one other =
     ap (λ x. x + d) left ∙ ap (λ x. cond {A = ℕ} (has_item xs (item.Object n)) 1 0 + x) right ∙ sym (times-is n xs apart)
 
 -- a name that no member refers to stands in none
-times-none : (n : List ℕ) (xs : List Item) → list_any (refers_to n) xs ≡ false → times n xs ≡ 0
+pub times-none : (n : List ℕ) (xs : List Item) → list_any (refers_to n) xs ≡ false → times n xs ≡ 0
 times-none n [] h = refl
 times-none n (x ∷ xs) h = by (refers_to n x) h (times-none n xs)
   where

@@ -50,15 +50,6 @@ module _ {I : Type 0} (named : I → Option (List ℕ)) (items : List ℕ → Li
       ap (λ ns. same_name g q || list_any (same_name g) ns) (spread-items named items (λ _ i. option_to_list (named i)) label falls n q lt)
       ∙ ap (λ b. same_name g q || b) (any-flat_map (same_name g) _ (items q) ∙ any-same _ _ (λ i. of-item n g (named i)) (items q))
 
--- some item passes a test
-pub some-passes : {I : Type 0} (p : I → Bool) (P : I → Type 0) (xs : List I) → list_any p xs ≡ true → AllByRecursion P xs → (i : I) × (p i ≡ true) × P i
-some-passes {I} p P [] any all = absurd (cc)
-some-passes {I} p P (x ∷ xs) any all = by (p x) refl any (λ more. some-passes p P xs more all.1)
-  where
-    by : (b : Bool) → p x ≡ b → (b || list_any p xs) ≡ true → (list_any p xs ≡ true → (i : I) × (p i ≡ true) × P i) → (i : I) × (p i ≡ true) × P i
-    by true here any more = (x, here, all.0)
-    by false here any more = more any
-
 module _ {I : Type 0} (named : I → Option (List ℕ)) (items : List ℕ → List I) (label : List ℕ → ℕ) (n : ℕ) (g : List ℕ) (D : List ℕ → Bool) where
   -- a set of names with the other one, and with each name that refers to a name of the set
   abbrev pub Closed : Type 0

@@ -19,7 +19,7 @@ use Rattle.asa_objects.proofs.ReachLaws.{any-append}
 use Rattle.asa_objects.proofs.ClimbLaws.{all-has, or-left, or-right}
 
 -- names before one have lesser labels
-rises-before : (label : List ℕ → ℕ) (before : List (List ℕ)) (n : List ℕ) (after : List (List ℕ)) → Rises label (before ++ n ∷ after) → AllByRecursion (λ q. label q < label n) before
+pub rises-before : (label : List ℕ → ℕ) (before : List (List ℕ)) (n : List ℕ) (after : List (List ℕ)) → Rises label (before ++ n ∷ after) → AllByRecursion (λ q. label q < label n) before
 rises-before label [] n after rises = tt
 rises-before label (b ∷ bs) n after rises = (at bs rises.0, rises-before label bs n after rises.1)
   where
@@ -184,7 +184,7 @@ pub small-start : (new : Ranks) → new ≡ [] → AreSmall new
 small-start new empty q h = let no : is_some (rank_of new q) ≡ false = ap (λ (r : Ranks). is_some (rank_of r q)) empty in absurd (cc)
 
 -- a list, cut at one of its elements
-cut-at : (xs : List (List ℕ)) (i : ℕ) (d : List ℕ) → i < length xs → xs ≡ take i xs ++ get_or xs i d ∷ drop (suc i) xs
+pub cut-at : (xs : List (List ℕ)) (i : ℕ) (d : List ℕ) → i < length xs → xs ≡ take i xs ++ get_or xs i d ∷ drop (suc i) xs
 cut-at xs i d lt = sym (take-append-drop i xs) ∙ ap (λ r. take i xs ++ r) (drop-cons xs i d lt)
 
 -- a name isn't new before its turn

@@ -1,8 +1,8 @@
 -- What members count in all is what those count that stand and those that are to go.
-use Rattle.std.proofs.Common.{◌≡◌, ℕ, ◌+◌, Bool, true, false, cond, not, ◌||◌, ◌&&◌, List, [], ◌∷◌, Option, Some, refl, sym, ap, ◌∙◌, arith}
+use Rattle.std.proofs.Common.{◌≡◌, ℕ, ◌+◌, Bool, true, false, cond, not, ◌||◌, ◌&&◌, List, [], ◌∷◌, Some, refl, sym, ap, ◌∙◌, arith}
 use Rattle.std.specs.Cmp.{IsEquivalence}
 use Rattle.std.specs.Cmp.Lexicographic.{texts_ties}
-use Rattle.std.specs.List.{filter, find, AllByRecursion}
+use Rattle.std.specs.List.{find, AllByRecursion}
 use Rattle.asa_members.specs.declared.stating.Item.{Item}
 use Rattle.asa_members.specs.declared.stating.Item.TheVariants as item
 use Rattle.asa_members.specs.contracts.stating.ItemEq.TheImpl.Laws as item_laws

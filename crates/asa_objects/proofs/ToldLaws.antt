@@ -1,29 +1,23 @@
 -- Totals that are told hold after a change; what a change of its references makes of the users of names.
-use Rattle.std.proofs.Common.{◌≡◌, ℕ, ◌+◌, ◌<◌, ◌⊎◌, inl, inr, Bool, true, false, cond, not, ◌||◌, ◌&&◌, List, [], ◌∷◌, ◌++◌, take, drop, Option, Some, None, Result, Ok, Err, is_some, refl, sym, ap, subst, ◌∙◌, append_assoc}
+use Rattle.std.proofs.Common.{◌≡◌, ℕ, ◌+◌, ◌<◌, ◌⊎◌, inl, inr, Bool, true, false, cond, not, ◌||◌, ◌&&◌, List, [], ◌∷◌, ◌++◌, take, drop, Option, Some, None, Result, Ok, Err, is_some, refl, sym, ap, subst, ◌∙◌}
 use Rattle.std.specs.List.{AllByRecursion, filter, list_any}
-use Rattle.std.specs.Option.{option_to_list}
 use Rattle.std.proofs.lemmas.Bool.{false≢true}
 use Rattle.std.proofs.lemmas.List.{take-append-drop}
-use Rattle.asa_members.specs.declared.blocking.GroupKind.{GroupKind}
 use Rattle.asa_members.specs.declared.stating.Item.{Item}
 use Rattle.asa_objects.specs.Amounts.{Amounts}
 use Rattle.asa_objects.specs.declared.ranking.Rank.{Rank}
-use Rattle.asa_objects.specs.declared.totaling.Renewed.{Renewed}
 use Rattle.asa_objects.specs.declared.faults.ObjectFault.{ObjectFault}
 use Rattle.asa_objects.specs.declared.faults.ObjectFault.TheVariants as fault
 use Rattle.asa_objects.specs.Spreads.{total, weight_of}
-use Rattle.asa_objects.specs.Tables.{Entry, Table, entry_of, group_at, group_of, items_in, items_of, named, refers_to, same_name, with_entry}
-use Rattle.asa_objects.specs.Ranks.{IsSound, Part, members, services, amount, amount_in, amount_of, Ranks, Uses, rank_of, users_of, has_name, weigh, own_totals, both_totals, refs_in}
-use Rattle.asa_objects.specs.Climbing.{IsAbove}
-use Rattle.asa_objects.specs.Totalling.{newer, amount_now, totals_in_rank, Running, sum_now, AreRunning, AreSums, IsOver, IsRenewed, IsOutside, IsTold, Limits, Sums, Renews}
+use Rattle.asa_objects.specs.Tables.{Entry, Table, entry_of, group_at, items_in, items_of, named, refers_to, same_name}
+use Rattle.asa_objects.specs.Ranks.{Part, members, services, amount, amount_in, Ranks, Uses, rank_of, users_of, has_name, weigh, own_totals}
+use Rattle.asa_objects.specs.Totalling.{newer, amount_now, Running, sum_now, AreRunning, AreSums, IsOver, IsRenewed, IsOutside, IsTold, Limits, Sums, Renews}
 use Rattle.asa_objects.specs.Using.{AreUsed, AreUnused, IsPartUsed, unused_in}
-use Rattle.asa_objects.specs.Changing.{Fits, SameUsers, Replaces}
+use Rattle.asa_objects.specs.Changing.{SameUsers, Replaces}
 use Rattle.asa_objects.proofs.LabelLaws.{same-is, same-self}
-use Rattle.asa_objects.proofs.SpreadLaws.{total-append}
 use Rattle.asa_objects.proofs.ReachLaws.{any-append}
-use Rattle.asa_objects.proofs.ChangeLaws.{IsChange, change-sound, each-ref, laid, new-refers}
+use Rattle.asa_objects.proofs.ChangeLaws.{IsChange, each-ref, laid, new-refers}
 use Rattle.asa_objects.proofs.OverLaws.{over-false}
-use Rattle.asa_objects.proofs.PutLaws.{entry-put}
 
 -- totals that are the sums over a name's members, as far as they are within the limit
 limits-sums : (after : Table) (ranks new : Ranks) (name : List ℕ) (run : Amounts) → AreSums after new ranks name run → (r : Result Amounts ObjectFault) → Limits run r → Sums after new ranks name r
@@ -49,7 +43,7 @@ module _ (t after : Table) (ranks : Ranks) (name : List ℕ) (told : Amounts) (n
     weight-told None apart = refl
     weight-told (Some c) apart = ap (λ r. amount_in k (newer r (rank_of ranks c))) (sym (old c apart))
 
-    sum-told : (xs : List Item) → AllByRecursion (λ i. IsOutside names (named i)) xs → total (weigh k after (amount_now k [] ranks) name) xs ≡ total (weigh k after (amount_now k new ranks) name) xs
+    pub sum-told : (xs : List Item) → AllByRecursion (λ i. IsOutside names (named i)) xs → total (weigh k after (amount_now k [] ranks) name) xs ≡ total (weigh k after (amount_now k new ranks) name) xs
     sum-told [] apart = refl
     sum-told (x ∷ xs) apart =
         ap (λ w. amount k (own_totals (group_at (entry_of after name)) x) + w + total (weigh k after (amount_now k [] ranks) name) xs) (weight-told (named x) apart.0)

@@ -1,5 +1,5 @@
 -- Totals part by part.
-use Rattle.std.proofs.Common.{◌≡◌, ℕ, ◌+◌, Option, Some, None, refl}
+use Rattle.std.proofs.Common.{◌≡◌, ◌+◌, Option, Some, None, refl}
 use Rattle.asa_objects.specs.Amounts.{Amounts}
 use Rattle.asa_objects.specs.declared.ranking.Rank.{Rank}
 use Rattle.asa_objects.specs.Ranks.{Part, members, prefixes, services, amount, amount_in, both_totals}

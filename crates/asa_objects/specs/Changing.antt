@@ -1,4 +1,4 @@
--- A name gets another value.
+-- The members of a name change.
 use Rattle.std.specs.Prelude.{◌≡◌, ℕ, not, true, false, List, [], Option, Some, None, Result, Ok, Err, is_some}
 use Rattle.std.specs.List.{AllByRecursion, filter, list_any}
 use Rattle.asa_objects.specs.declared.faults.ObjectFault.{ObjectFault}
@@ -10,6 +10,7 @@ use Rattle.asa_objects.specs.Defining.{are_small}
 use Rattle.asa_objects.specs.Marks.{AreDistinct, changed, changed_entry}
 use Rattle.asa_objects.specs.Ranks.{Ranks, Uses, both_totals, rank_of, has_name, users_of, refs_in}
 use Rattle.asa_objects.specs.Totalling.{totals_in_rank}
+use Rattle.asa_objects.specs.Using.{AreUsed, AreUnused, unused_in}
 use Rattle.asa_objects.specs.Weighing.{weights}
 
 -- each of the names has a rank
@@ -20,15 +21,20 @@ AreRanked ranks names = AllByRecursion (λ q. is_some (rank_of ranks q) ≡ true
 abbrev pub SameUsers : Uses → Uses → Type 0
 SameUsers old new = (q u : List ℕ) → has_name (users_of new q) u ≡ has_name (users_of old q) u
 
+-- a name came to refer to some names, then it no longer refers to others
+abbrev pub UsersMove : Uses → Uses → List ℕ → List (List ℕ) → List (List ℕ) → Type 0
+UsersMove old new name refs freed = (mid : Uses) × AreUsed old mid name (unused_in old refs name) × AreUnused mid new name freed
+
 -- a name refers to exactly these
 abbrev pub RefersTo : Uses → List ℕ → List (List ℕ) → Type 0
 RefersTo uses name refs = (c : List ℕ) → has_name (users_of uses c) name ≡ has_name refs c
 
--- the table after a change of the members of a name
+-- the table after a change of the members of a name, which stands for this
 abbrev pub changed_in : Table → List ℕ → List Item → List Item → Option Entry → Table
 changed_in t name gone added None = t
 changed_in t name gone added (Some entry) = with_entry t name (changed_entry entry gone added)
 
+-- the table after a change of the members of a name
 abbrev pub changed_at : Table → List ℕ → List Item → List Item → Table
 changed_at t name gone added = changed_in t name gone added (entry_of t name)
 
@@ -39,6 +45,10 @@ freed_among items names = filter (λ c. not (list_any (refers_to c) items)) name
 -- the names that members refer to which go, unless one that stays or comes refers to them
 abbrev pub freed_by : List Item → List Item → List Item → List (List ℕ)
 freed_by former gone added = freed_among (changed former gone added) (refs_in gone)
+
+-- no member that goes or comes refers to a name
+abbrev pub IsPlain : List Item → List Item → Type 0
+IsPlain gone added = (refs_in gone ≡ []) × (refs_in added ≡ [])
 
 -- what a change of a name's members does: which names come to be referred to, which no longer are, and what totals the name
 -- then has

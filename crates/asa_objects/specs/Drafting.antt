@@ -1,5 +1,5 @@
--- What the lines of a block make of the members of a name, with the names that reach it.
-use Rattle.std.specs.Prelude.{◌≡◌, ℕ, List, Result, Ok, Err}
+-- What the lines of a block make of the members of a name.
+use Rattle.std.specs.Prelude.{◌≡◌, ℕ, ◌≤◌, false, List, length, Result, Ok, Err}
 use Rattle.asa_text.specs.declared.grouping.Block.{Block}
 use Rattle.asa_members.specs.declared.stating.Item.{Item}
 use Rattle.asa_members.specs.declared.topping.Top.{Top}
@@ -7,10 +7,8 @@ use Rattle.asa_objects.specs.declared.defining.Drafted.{Drafted}
 use Rattle.asa_objects.specs.declared.drafting.Change.{Change}
 use Rattle.asa_objects.specs.declared.faults.ObjectFault.{ObjectFault}
 use Rattle.asa_objects.specs.declared.faults.ObjectFault.TheVariants as fault
-use Rattle.asa_objects.specs.Tables.{Table, items_of, with_entry}
-use Rattle.asa_objects.specs.Ranks.{Ranks}
-use Rattle.asa_objects.specs.Climbing.{IsAbove}
-use Rattle.asa_objects.specs.Defining.{after_lines, inner_lines, lacks_value}
+use Rattle.asa_objects.specs.Tables.{Table, items_of}
+use Rattle.asa_objects.specs.Defining.{after_lines, changed_by, inner_lines, lacks_value}
 use Rattle.asa_objects.specs.Marks.{AreFormer, AreNew, changed, standing}
 
 -- the members after the lines
@@ -22,18 +20,27 @@ abbrev pub after_change : Table → List ℕ → Change → List Item
 after_change t name c = changed (items_of t name) c.gone.keys c.added
 
 -- what reading the lines gives
-pub record IsDrafted (t : Table) (ranks : Ranks) (b : Block) (top : Top) (d : Drafted) : Type 0 where
+pub record IsDrafted (t : Table) (b : Block) (top : Top) (d : Drafted) : Type 0 where
   pub members : drafted_by t b top ≡ Ok (after_change t top.name d.change)
   pub new : AreNew (standing (items_of t top.name) d.change.gone.keys) d.change.added
   pub former : AreFormer (items_of t top.name) d.change.gone.keys
   pub lacks : d.lacks ≡ lacks_value top.block (after_change t top.name d.change)
-  pub above : IsAbove t ranks top.name d.names.items
 
-abbrev pub Drafteds : Table → Ranks → Block → Top → Result Drafted ObjectFault → Type 0
-Drafteds t ranks b top (Ok d) = IsDrafted t ranks b top d
-Drafteds t ranks b top (Err fault.NoMemory) = Unit {0}
-Drafteds t ranks b top (Err f) = drafted_by t b top ≡ Err f
+abbrev pub Drafteds : Table → Block → Top → Result Drafted ObjectFault → Type 0
+Drafteds t b top (Ok d) = IsDrafted t b top d
+Drafteds t b top (Err fault.NoMemory) = Unit {0}
+Drafteds t b top (Err f) = drafted_by t b top ≡ Err f
 
--- the table after a change of the members of a name
-abbrev pub taken : Table → Top → Change → Table
-taken t top c = with_entry t top.name (record { block = top.block; items = after_change t top.name c })
+-- a block may change a name so, which is in the table
+pub record IsRead (t : Table) (b : Block) (top : Top) (c : Change) : Type 0 where
+  pub members : drafted_by t b top ≡ Ok (after_change t top.name c)
+  pub new : AreNew (standing (items_of t top.name) c.gone.keys) c.added
+  pub former : AreFormer (items_of t top.name) c.gone.keys
+  pub has : lacks_value top.block (after_change t top.name c) ≡ false
+  pub few : length t ≤ 16384
+
+-- what finding that out may answer
+abbrev pub Reads : Table → Block → Top → Result Change ObjectFault → Type 0
+Reads t b top (Ok c) = IsRead t b top c
+Reads t b top (Err fault.NoMemory) = Unit {0}
+Reads t b top (Err f) = changed_by t b top ≡ Err f

@@ -14,3 +14,4 @@ pub mod Marks
 pub mod Keeping
 pub mod Weighing
 pub mod Ordering
+pub mod Reaching

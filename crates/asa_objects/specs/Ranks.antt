@@ -4,6 +4,7 @@ use Rattle.std.specs.Prelude.{◌≡◌, ℕ, ◌+◌, ◌<◌, ◌≤◌, Bool,
 use Rattle.std.specs.List.{list_any, flat_map, AllByRecursion}
 use Rattle.std.specs.Option.{option_to_list}
 use Rattle.std.specs.Map.{lookup}
+use Rattle.std.specs.Str.{bytes_eq}
 use Rattle.std.specs.BTreeMap.{is_at}
 use Rattle.std.specs.BTreeSet.{BTreeSet}
 use Rattle.std.specs.Ordering.{nat_cmp}
@@ -49,7 +50,7 @@ abbrev pub Uses : Type 0
 Uses = List (List ℕ × BTreeSet (List ℕ))
 
 abbrev pub rank_of : Ranks → List ℕ → Option Rank
-rank_of ranks name = lookup (is_at (slice_cmp nat_cmp name)) ranks
+rank_of ranks name = lookup (bytes_eq name) ranks
 
 abbrev pub label_in : Option Rank → ℕ
 label_in None = 0

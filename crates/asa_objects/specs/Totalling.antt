@@ -32,9 +32,6 @@ abbrev pub totals_in_rank : Option Rank → Amounts
 totals_in_rank None = no_totals
 totals_in_rank (Some r) = r.totals
 
-abbrev pub totals_now : Ranks → Ranks → List ℕ → Amounts
-totals_now new ranks name = totals_in_rank (rank_now new ranks name)
-
 -- the sum over a name's members
 abbrev pub summed : Part → Table → Ranks → Ranks → List ℕ → ℕ
 summed k t new ranks name = total (weigh k t (amount_now k new ranks) name) (items_of t name)

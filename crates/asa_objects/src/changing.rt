@@ -5,41 +5,49 @@ ghost use Rattle.asa_objects.specs.Changing as spec;
 ghost use Rattle.asa_objects.specs.Climbing.{IsAbove};
 ghost use Rattle.asa_objects.specs.Marks.{AreFormer, AreNew, changed, standing};
 ghost use Rattle.asa_objects.specs.Ranks.{IsSound, both_totals, has_name, rank_of, refs_in, users_of};
+ghost use Rattle.asa_objects.specs.Reaching.{IsReach, IsReachKept};
 ghost use Rattle.asa_objects.specs.Tables.{entry_of, group_at, items_of, named, refers_to, same_name};
 ghost use Rattle.asa_objects.specs.Totalling.{newer, totals_in_rank};
 ghost use Rattle.asa_objects.specs.Using.{AreUsed, AreUnused, unused_in};
 ghost use Rattle.asa_objects.specs.Weighing.{weights};
 ghost use Rattle.std.specs.List.{AllByRecursion, list_any};
+ghost use Rattle.std.specs.Map.{keys_of};
 ghost use Rattle.std.specs.Option.{option_to_list};
 
 use crate::drafting::Change;
 use crate::faults::ObjectFault;
 use crate::ordering::OrderedItems;
-use crate::ranking::{Rank, Totals, totals_of};
+use crate::ranking::{Rank, Totals, place_of, set_rank_at, totals_of};
+use crate::reaching::Reach;
+use crate::renewing::{renewed_by, retotal_by, set_by};
 use crate::totaling::{Renewed, renew};
 use crate::using::{add_uses, drop_uses, unused_of};
 use crate::valuing::{Stated, group_of, name_in};
 use crate::weighing::{weight_of_items, weight_of_slice};
 use asa_base::Name;
 use asa_members::{GroupKind, Item};
+use asa_text::Shared;
+use indexmap::IndexMap;
 use std::alloc::{AllocError, Global};
 use std::collections::{BTreeMap, BTreeSet};
 
 /// Puts another rank at a name that has one.
-fn set_rank(ranks: &mut BTreeMap<Name, Rank>, name: &Name, rank: Rank)
+fn set_rank(ranks: &mut IndexMap<Name, Rank>, name: &Name, rank: Rank)
     requires { is_some (rank_of ranks.old.entries name.now) ≡ true }
-    ensures { (q : List ℕ) → rank_of ranks.new.entries q ≡ cond (same_name name.now q) (Some rank) (rank_of ranks.old.entries q) }
+    ensures value { (q : List ℕ) → rank_of ranks.new.entries q ≡ cond (same_name name.now q) (Some rank) (rank_of ranks.old.entries q) }
+    ensures keys { keys_of ranks.new.entries ≡ keys_of ranks.old.entries }
 {
-    match ranks.get_mut(name) {
-        Some(old) => *old = rank,
+    match place_of(ranks, name) {
+        Some(place) => set_rank_at(ranks, place, rank),
         None => unreachable!(),
     }
 }
 
 /// Puts the new rank of a name, where there is one, at the name, which has a rank.
-fn set_new_rank(ranks: &mut BTreeMap<Name, Rank>, new: &BTreeMap<Name, Rank>, name: &Name)
+fn set_new_rank(ranks: &mut IndexMap<Name, Rank>, new: &IndexMap<Name, Rank>, name: &Name)
     requires { is_some (rank_of ranks.old.entries name.now) ≡ true }
-    ensures { (q : List ℕ) → rank_of ranks.new.entries q ≡ cond (same_name name.now q) (newer (rank_of new.now.entries name.now) (rank_of ranks.old.entries q)) (rank_of ranks.old.entries q) }
+    ensures value { (q : List ℕ) → rank_of ranks.new.entries q ≡ cond (same_name name.now q) (newer (rank_of new.now.entries name.now) (rank_of ranks.old.entries q)) (rank_of ranks.old.entries q) }
+    ensures keys { keys_of ranks.new.entries ≡ keys_of ranks.old.entries }
 {
     if let Some(rank) = new.get(name) {
         set_rank(ranks, name, *rank);
@@ -47,9 +55,10 @@ fn set_new_rank(ranks: &mut BTreeMap<Name, Rank>, new: &BTreeMap<Name, Rank>, na
 }
 
 /// Puts the new ranks of names, which have ranks, in place of the old ones.
-fn set_ranks(ranks: &mut BTreeMap<Name, Rank>, new: &BTreeMap<Name, Rank>, names: &[Name])
+fn set_ranks(ranks: &mut IndexMap<Name, Rank>, new: &IndexMap<Name, Rank>, names: &[Name])
     requires { spec.AreRanked ranks.old.entries names.now }
-    ensures { (q : List ℕ) → rank_of ranks.new.entries q ≡ cond (has_name names.now q) (newer (rank_of new.now.entries q) (rank_of ranks.old.entries q)) (rank_of ranks.old.entries q) }
+    ensures value { (q : List ℕ) → rank_of ranks.new.entries q ≡ cond (has_name names.now q) (newer (rank_of new.now.entries q) (rank_of ranks.old.entries q)) (rank_of ranks.old.entries q) }
+    ensures keys { keys_of ranks.new.entries ≡ keys_of ranks.old.entries }
 {
     for name in names {
         set_new_rank(ranks, new, name);
@@ -87,10 +96,12 @@ fn note_refs(
 /// What is kept of the names of a table beside their values.
 #[derive(Debug, Drop)]
 pub(crate) struct Kept {
-    pub(crate) ranks: BTreeMap<Name, Rank>,
+    pub(crate) ranks: IndexMap<Name, Rank>,
     pub(crate) uses: BTreeMap<Name, BTreeSet<Name>>,
     /// The next label.
     pub(crate) stamp: u64,
+    /// The names that reach some names that changed, as far as they are kept.
+    pub(crate) reach: Vec<Shared<Reach>>,
 }
 
 /// The value of a name that is there.
@@ -134,6 +145,20 @@ fn refs_of(alloc: Global, items: &OrderedItems) -> Result<Vec<Name>, AllocError>
     Ok(refs)
 }
 
+/// Whether one of some members refers to a name.
+fn has_ref_in(items: &[Item]) -> bool
+    ensures { result ≡ list_any (λ i. is_some (named i)) items.now }
+{
+    items.iter().any(|item| name_in(item).is_some())
+}
+
+/// Whether one of some members refers to a name.
+fn has_ref(items: &OrderedItems) -> bool
+    ensures { result ≡ list_any (λ i. is_some (named i)) items.now }
+{
+    items.values().any(|item| name_in(item).is_some())
+}
+
 /// Whether a member refers to a name after a change of the members.
 fn still_refers(former: &OrderedItems, change: &Change, name: &Name) -> bool
     ensures { result ≡ list_any (refers_to name.now) (changed former.now change.now.gone.keys change.now.added) }
@@ -172,7 +197,7 @@ fn freed_by(alloc: Global, former: &OrderedItems, change: &Change) -> Result<Vec
 
 /// The totals of a name after a change of its members.
 fn totals_after(
-    ranks: &BTreeMap<Name, Rank>,
+    ranks: &IndexMap<Name, Rank>,
     name: &Name,
     group: GroupKind,
     change: &Change,
@@ -197,7 +222,7 @@ struct Effect {
 fn effect_of(
     alloc: Global,
     values: &BTreeMap<Name, Stated>,
-    ranks: &BTreeMap<Name, Rank>,
+    ranks: &IndexMap<Name, Rank>,
     name: &Name,
     change: &Change,
 ) -> Result<Effect, ObjectFault>
@@ -205,6 +230,7 @@ fn effect_of(
     ensures { spec.HasEffects values.now.entries ranks.now.entries name.now change.now.gone.keys change.now.added result }
 {
     let stated = stated_of(values, name);
+    // Only for the proof: what lists the members tells that none of them stands twice.
     let _members = stated.items().values();
     let refs = refs_of(alloc, &change.added)?;
     let freed = freed_by(alloc, stated.items(), change)?;
@@ -215,6 +241,37 @@ fn effect_of(
             totals,
         }),
         None => Err(ObjectFault::NoMemory),
+    }
+}
+
+/// Puts the changed members at a name that is there, and notes which names it refers to then. On want of memory all is as
+/// before.
+fn take_effect(
+    alloc: Global,
+    values: &mut BTreeMap<Name, Stated>,
+    uses: &mut BTreeMap<Name, BTreeSet<Name>>,
+    name: &Name,
+    change: &Change,
+    effect: &Effect,
+) -> Result<(), ObjectFault>
+    requires there { is_some (entry_of values.old.entries name.now) ≡ true }
+    requires new { AreNew (standing (items_of values.old.entries name.now) change.now.gone.keys) change.now.added }
+    ensures ok { OnOk result (values.new.entries ≡ spec.changed_at values.old.entries name.now change.now.gone.keys change.now.added) }
+    ensures users { OnOk result (spec.UsersMove uses.old.entries uses.new.entries name.now effect.now.refs.items effect.now.freed.items) }
+    ensures err { OnErr result (values.new.entries ≡ values.old.entries) }
+    ensures users_err { OnErr result (spec.SameUsers uses.old.entries uses.new.entries) }
+    ensures fault { IfErr result (λ f. f ≡ fault.NoMemory) }
+{
+    let fresh = note_refs(alloc, uses, name, effect.refs.as_slice())?;
+    match change_at(values, name, change) {
+        Ok(()) => {
+            drop_uses(uses, effect.freed.as_slice(), name);
+            Ok(())
+        }
+        Err(_) => {
+            forget_refs(uses, name, fresh.as_slice());
+            Err(ObjectFault::NoMemory)
+        }
     }
 }
 
@@ -236,22 +293,65 @@ pub(crate) fn change_members(
     requires fits { AllByRecursion (λ i. spec.Fits values.old.entries name.now (named i)) (changed (items_of values.old.entries name.now) change.now.gone.keys change.now.added) }
     ensures sound { IsSound values.new.entries kept.new.ranks.entries kept.new.uses.entries kept.new.stamp }
     ensures answer { spec.Replaces values.old.entries values.new.entries (spec.changed_at values.old.entries name.now change.now.gone.keys change.now.added) result }
+    ensures others { (q : List ℕ) → has_name names.now q ≡ false → rank_of kept.new.ranks.entries q ≡ rank_of kept.old.ranks.entries q }
+    ensures keys { keys_of kept.new.ranks.entries ≡ keys_of kept.old.ranks.entries }
+    ensures ranks { OnErr result (kept.new.ranks.entries ≡ kept.old.ranks.entries) }
+    ensures reach { kept.new.reach.items ≡ kept.old.reach.items }
 {
     let effect = effect_of(alloc, values, &kept.ranks, name, change)?;
     let renewed = renew(alloc, values, kept, name, effect.totals, names)?;
-    let fresh = note_refs(alloc, &mut kept.uses, name, effect.refs.as_slice())?;
-    match change_at(values, name, change) {
-        Ok(()) => {
-            set_ranks(&mut kept.ranks, &renewed.ranks, names);
-            drop_uses(&mut kept.uses, effect.freed.as_slice(), name);
-            kept.stamp = renewed.label;
-            Ok(())
-        }
-        Err(_) => {
-            forget_refs(&mut kept.uses, name, fresh.as_slice());
-            Err(ObjectFault::NoMemory)
-        }
+    take_effect(alloc, values, &mut kept.uses, name, change, &effect)?;
+    set_ranks(&mut kept.ranks, &renewed.ranks, names);
+    kept.stamp = renewed.label;
+    Ok(())
+}
+
+/// Whether no member that goes or comes refers to a name.
+fn is_plain(change: &Change) -> bool
+    ensures { result ≡ true → spec.IsPlain change.now.gone.keys change.now.added }
+{
+    if has_ref_in(change.gone.as_slice()) {
+        return false;
     }
+    !has_ref(&change.added)
+}
+
+/// Changes the members of a name that is there, with the names that reach it. What is kept of other names stays where no member
+/// that goes or comes refers to one, or else is dropped. Unless a copy shares the members that the name has, this costs nothing
+/// that grows with them. After a refusal all is as before.
+pub(crate) fn change_by(
+    alloc: Global,
+    values: &mut BTreeMap<Name, Stated>,
+    kept: &mut Kept,
+    reach: &Reach,
+    change: &Change,
+) -> Result<(), ObjectFault>
+    requires sound { IsSound values.old.entries kept.old.ranks.entries kept.old.uses.entries kept.old.stamp }
+    requires there { is_some (entry_of values.old.entries reach.now.name) ≡ true }
+    requires reach { IsReach values.old.entries kept.old.ranks.entries reach.now }
+    requires new { AreNew (standing (items_of values.old.entries reach.now.name) change.now.gone.keys) change.now.added }
+    requires former { AreFormer (items_of values.old.entries reach.now.name) change.now.gone.keys }
+    requires kept { IsReachKept values.old.entries kept.old.ranks.entries kept.old.reach.items }
+    requires fits { AllByRecursion (λ i. spec.Fits values.old.entries reach.now.name (named i)) (changed (items_of values.old.entries reach.now.name) change.now.gone.keys change.now.added) }
+    ensures sound { IsSound values.new.entries kept.new.ranks.entries kept.new.uses.entries kept.new.stamp }
+    ensures answer { spec.Replaces values.old.entries values.new.entries (spec.changed_at values.old.entries reach.now.name change.now.gone.keys change.now.added) result }
+    ensures reach { IsReach values.new.entries kept.new.ranks.entries reach.now }
+    ensures kept { IsReachKept values.new.entries kept.new.ranks.entries kept.new.reach.items }
+{
+    let name = &reach.name;
+    let ways = reach.ways.as_slice();
+    let effect = effect_of(alloc, values, &kept.ranks, name, change)?;
+    let old = totals_of(&kept.ranks, name);
+    let renewed = renewed_by(alloc, &kept.ranks, ways, kept.stamp, old, effect.totals)?;
+    take_effect(alloc, values, &mut kept.uses, name, change, &effect)?;
+    if is_plain(change) {
+        retotal_by(&mut kept.ranks, ways, renewed.ranks.as_slice());
+        return Ok(());
+    }
+    set_by(&mut kept.ranks, ways, renewed.ranks.as_slice());
+    kept.stamp = renewed.label;
+    kept.reach.clear();
+    Ok(())
 }
 
 /// A copy of the table; the members of each name are shared.
@@ -264,7 +364,7 @@ pub(crate) fn copy_values(
 }
 
 /// A copy of the ranks.
-fn copy_ranks(ranks: &BTreeMap<Name, Rank>) -> Result<BTreeMap<Name, Rank>, AllocError>
+fn copy_ranks(ranks: &IndexMap<Name, Rank>) -> Result<IndexMap<Name, Rank>, AllocError>
     ensures { IfOk result (λ m. m.entries ≡ ranks.now.entries) }
 {
     ranks.clone()
@@ -280,11 +380,12 @@ fn copy_uses(
 }
 
 impl Kept {
-    /// A copy.
-    pub(crate) fn copy(&self) -> Result<Kept, AllocError>
+    /// A copy, which keeps nothing of the names that reach one.
+    pub(crate) fn copy(&self, alloc: Global) -> Result<Kept, AllocError>
         ensures ranks { IfOk result (λ k. k.ranks.entries ≡ self.now.ranks.entries) }
         ensures uses { IfOk result (λ k. spec.SameUsers self.now.uses.entries k.uses.entries) }
         ensures stamp { IfOk result (λ k. k.stamp ≡ self.now.stamp) }
+        ensures reach { IfOk result (λ k. k.reach.items ≡ []) }
     {
         let ranks = copy_ranks(&self.ranks)?;
         let uses = copy_uses(&self.uses)?;
@@ -292,6 +393,7 @@ impl Kept {
             ranks,
             uses,
             stamp: self.stamp,
+            reach: Vec::new(alloc),
         })
     }
 }

@@ -9,11 +9,12 @@ ghost use Rattle.asa_objects.specs.Tables.{reaches};
 use crate::ranking::Rank;
 use crate::valuing::Stated;
 use asa_base::Name;
+use indexmap::IndexMap;
 use std::alloc::{AllocError, Global};
 use std::collections::{BTreeMap, BTreeSet};
 
 /// The label of a name; 0 where it has no rank.
-pub(crate) fn label_of(ranks: &BTreeMap<Name, Rank>, name: &Name) -> u64
+pub(crate) fn label_of(ranks: &IndexMap<Name, Rank>, name: &Name) -> u64
     ensures { result ≡ label_of ranks.now.entries name.now }
 {
     match ranks.get(name) {
@@ -24,7 +25,7 @@ pub(crate) fn label_of(ranks: &BTreeMap<Name, Rank>, name: &Name) -> u64
 
 /// Puts names among those that wait, each at its label.
 fn wait_for(
-    ranks: &BTreeMap<Name, Rank>,
+    ranks: &IndexMap<Name, Rank>,
     users: &BTreeSet<Name>,
     waiting: &mut BTreeMap<u64, Name>,
 ) -> Result<(), AllocError>
@@ -38,7 +39,7 @@ fn wait_for(
 
 /// Puts the names that refer to a name among those that wait.
 fn wait_for_users(
-    ranks: &BTreeMap<Name, Rank>,
+    ranks: &IndexMap<Name, Rank>,
     uses: &BTreeMap<Name, BTreeSet<Name>>,
     name: &Name,
     waiting: &mut BTreeMap<u64, Name>,
@@ -55,7 +56,7 @@ fn wait_for_users(
 pub(crate) fn above(
     alloc: Global,
     values: &BTreeMap<Name, Stated>,
-    ranks: &BTreeMap<Name, Rank>,
+    ranks: &IndexMap<Name, Rank>,
     uses: &BTreeMap<Name, BTreeSet<Name>>,
     stamp: u64,
     name: &Name,
@@ -80,7 +81,7 @@ pub(crate) fn above(
 pub(crate) fn reaching(
     alloc: Global,
     values: &BTreeMap<Name, Stated>,
-    ranks: &BTreeMap<Name, Rank>,
+    ranks: &IndexMap<Name, Rank>,
     uses: &BTreeMap<Name, BTreeSet<Name>>,
     stamp: u64,
     name: &Name,

@@ -1,28 +1,28 @@
 //! A block changes the value of a name that is in the table.
-ghost use Rattle.std.specs.Prelude.{◌≡◌, List, true, false, is_some, IsSomeAnd, None, Some};
-ghost use Rattle.asa_objects.specs.Climbing.{IsAbove};
+ghost use Rattle.std.specs.Prelude.{◌≡◌, ℕ, List, true, is_some, IsSomeAnd, None, Some};
 ghost use Rattle.asa_objects.specs.Defining as spec;
 ghost use Rattle.asa_objects.specs.Drafting as over;
-ghost use Rattle.asa_objects.specs.Changing.{Fits, Replaces};
-ghost use Rattle.asa_objects.specs.Marks.{AreFormer, AreNew, changed, standing};
-ghost use Rattle.asa_objects.specs.Ranks.{IsSound};
-ghost use Rattle.asa_objects.specs.Tables.{entry_of, items_of, named};
-ghost use Rattle.std.specs.List.{AllByRecursion};
+ghost use Rattle.asa_objects.specs.Marks.{changed};
+ghost use Rattle.asa_objects.specs.Ranks.{IsSound, has_name};
+ghost use Rattle.asa_objects.specs.Reaching.{IsReach, IsReachKept};
+ghost use Rattle.asa_objects.specs.Tables.{entry_of, reaches};
 
-use crate::changing::{Kept, change_members, stated_of};
+use crate::changing::{Kept, change_by, change_members, stated_of};
 use crate::climbing::above;
 use crate::drafting::{Change, Draft};
 use crate::faults::ObjectFault;
+use crate::holding::{find_reach, hold_reach};
 use crate::opening::{close_name, open_name};
 use crate::ordering::OrderedItems;
+use crate::reaching::{Reach, is_apart};
 use crate::stating::{inner_lines, missing_column, take_lines};
 use crate::using::set_of;
 use crate::valuing::Stated;
 use asa_base::Name;
 use asa_members::{BlockKind, Top};
-use asa_text::Block;
+use asa_text::{Block, Shared};
 use std::alloc::Global;
-use std::collections::BTreeMap;
+use std::collections::{BTreeMap, BTreeSet};
 
 /// Whether an object has no value after a change of its former members. A group needs none.
 fn lacks_value(block: BlockKind, former: &OrderedItems, change: &Change) -> bool
@@ -34,26 +34,82 @@ fn lacks_value(block: BlockKind, former: &OrderedItems, change: &Change) -> bool
     }
 }
 
-/// What the lines of a block do to the members of a name, whether the name then lacks a value, and the names that reach
-/// that name.
+/// What the lines of a block do to the members of a name, and whether the name then lacks a value.
 #[derive(Debug, Drop)]
 struct Drafted {
     change: Change,
     lacks: bool,
-    names: Vec<Name>,
 }
 
-/// Reads the indented lines of a block.
+/// Reads the indented lines of a block; the names that reach the block's name are told.
 fn read_lines(
     alloc: Global,
     values: &BTreeMap<Name, Stated>,
-    kept: &Kept,
+    reaching: &BTreeSet<Name>,
     block: &Block,
     top: &Top,
 ) -> Result<Drafted, ObjectFault>
-    requires sound { IsSound values.now.entries kept.now.ranks.entries kept.now.uses.entries kept.now.stamp }
     requires there { is_some (entry_of values.now.entries top.now.name) ≡ true }
-    ensures value { over.Drafteds values.now.entries kept.now.ranks.entries block.now top.now result }
+    requires reaching { (q : List ℕ) → has_name reaching.now.keys q ≡ reaches values.now.entries q top.now.name }
+    ensures value { over.Drafteds values.now.entries block.now top.now result }
+{
+    let stated = stated_of(values, &top.name);
+    let mut draft = Draft::new(alloc, stated);
+    take_lines(
+        alloc,
+        values,
+        &top.name,
+        top.block,
+        reaching,
+        &mut draft,
+        inner_lines(block),
+    )?;
+    let change = draft.into_change();
+    let lacks = lacks_value(top.block, stated.items(), &change);
+    Ok(Drafted { change, lacks })
+}
+
+/// What a block does to the members of a name that is in the table, where it may; the names that reach it are told.
+fn read_change(
+    alloc: Global,
+    values: &BTreeMap<Name, Stated>,
+    reaching: &BTreeSet<Name>,
+    block: &Block,
+    top: &Top,
+) -> Result<Change, ObjectFault>
+    requires there { is_some (entry_of values.now.entries top.now.name) ≡ true }
+    requires reaching { (q : List ℕ) → has_name reaching.now.keys q ≡ reaches values.now.entries q top.now.name }
+    ensures { over.Reads values.now.entries block.now top.now result }
+{
+    let read = read_lines(alloc, values, reaching, block, top)?;
+    let Drafted { change, lacks } = read;
+    if lacks {
+        return Err(ObjectFault::Bad {
+            line: 1,
+            column: missing_column(block),
+        });
+    }
+    if values.len() > 16384 {
+        return Err(ObjectFault::TooMany);
+    }
+    Ok(change)
+}
+
+/// Takes the block of a name that is in the table, with the names that reach it, which are climbed. After a refusal all is as
+/// before.
+fn change_climbed(
+    alloc: Global,
+    values: &mut BTreeMap<Name, Stated>,
+    kept: &mut Kept,
+    block: &Block,
+    top: &Top,
+) -> Result<(), ObjectFault>
+    requires sound { IsSound values.old.entries kept.old.ranks.entries kept.old.uses.entries kept.old.stamp }
+    requires there { IsSomeAnd (entry_of values.old.entries top.now.name) (λ e. e.block ≡ top.now.block) }
+    requires reach { IsReachKept values.old.entries kept.old.ranks.entries kept.old.reach.items }
+    ensures sound { IsSound values.new.entries kept.new.ranks.entries kept.new.uses.entries kept.new.stamp }
+    ensures answer { spec.Defines result values.old.entries values.new.entries (spec.changed_by values.old.entries block.now top.now) }
+    ensures reach { IsReachKept values.new.entries kept.new.ranks.entries kept.new.reach.items }
 {
     let names = above(
         alloc,
@@ -64,45 +120,38 @@ fn read_lines(
         &top.name,
     )?;
     let reaching = set_of(alloc, names.as_slice())?;
-    let stated = stated_of(values, &top.name);
-    let mut draft = Draft::new(alloc, stated);
-    take_lines(
-        alloc,
-        values,
-        &top.name,
-        top.block,
-        &reaching,
-        &mut draft,
-        inner_lines(block),
-    )?;
-    let change = draft.into_change();
-    let lacks = lacks_value(top.block, stated.items(), &change);
-    Ok(Drafted {
-        change,
-        lacks,
-        names,
-    })
+    let change = read_change(alloc, values, &reaching, block, top)?;
+    change_members(alloc, values, kept, &top.name, &change, names.as_slice())?;
+    if is_apart(kept.reach.as_slice(), names.as_slice(), &change.added) {
+        return Ok(());
+    }
+    kept.reach.clear();
+    Ok(())
 }
 
-/// Takes a change of the members of a name that is in the table. After a refusal all is as before.
-fn take_change(
+/// Takes the block of a name that is in the table, with the names that reach it, which then are kept. After a refusal all is as
+/// before.
+fn change_reached(
     alloc: Global,
     values: &mut BTreeMap<Name, Stated>,
     kept: &mut Kept,
+    reach: Shared<Reach>,
+    block: &Block,
     top: &Top,
-    change: &Change,
-    names: &[Name],
 ) -> Result<(), ObjectFault>
     requires sound { IsSound values.old.entries kept.old.ranks.entries kept.old.uses.entries kept.old.stamp }
     requires there { IsSomeAnd (entry_of values.old.entries top.now.name) (λ e. e.block ≡ top.now.block) }
-    requires above { IsAbove values.old.entries kept.old.ranks.entries top.now.name names.now }
-    requires new { AreNew (standing (items_of values.old.entries top.now.name) change.now.gone.keys) change.now.added }
-    requires former { AreFormer (items_of values.old.entries top.now.name) change.now.gone.keys }
-    requires fits { AllByRecursion (λ i. Fits values.old.entries top.now.name (named i)) (over.after_change values.old.entries top.now.name change.now) }
+    requires reach { IsReach values.old.entries kept.old.ranks.entries reach }
+    requires name { reach.name ≡ top.now.name }
+    requires kept { IsReachKept values.old.entries kept.old.ranks.entries kept.old.reach.items }
     ensures sound { IsSound values.new.entries kept.new.ranks.entries kept.new.uses.entries kept.new.stamp }
-    ensures answer { Replaces values.old.entries values.new.entries (over.taken values.old.entries top.now change.now) result }
+    ensures answer { spec.Defines result values.old.entries values.new.entries (spec.changed_by values.old.entries block.now top.now) }
+    ensures kept { IsReachKept values.new.entries kept.new.ranks.entries kept.new.reach.items }
 {
-    change_members(alloc, values, kept, &top.name, change, names)
+    let change = read_change(alloc, values, &reach.get().set, block, top)?;
+    change_by(alloc, values, kept, reach.get(), &change)?;
+    hold_reach(&mut kept.reach, reach);
+    Ok(())
 }
 
 /// Takes the block of a name that is in the table. After a refusal all is as before.
@@ -115,25 +164,15 @@ pub(crate) fn change_value(
 ) -> Result<(), ObjectFault>
     requires sound { IsSound values.old.entries kept.old.ranks.entries kept.old.uses.entries kept.old.stamp }
     requires there { IsSomeAnd (entry_of values.old.entries top.now.name) (λ e. e.block ≡ top.now.block) }
+    requires reach { IsReachKept values.old.entries kept.old.ranks.entries kept.old.reach.items }
     ensures sound { IsSound values.new.entries kept.new.ranks.entries kept.new.uses.entries kept.new.stamp }
     ensures answer { spec.Defines result values.old.entries values.new.entries (spec.changed_by values.old.entries block.now top.now) }
+    ensures reach { IsReachKept values.new.entries kept.new.ranks.entries kept.new.reach.items }
 {
-    let read = read_lines(alloc, values, kept, block, top)?;
-    let Drafted {
-        change,
-        lacks,
-        names,
-    } = read;
-    if lacks {
-        return Err(ObjectFault::Bad {
-            line: 1,
-            column: missing_column(block),
-        });
+    match find_reach(alloc, values, kept, &top.name)? {
+        Some(reach) => change_reached(alloc, values, kept, reach, block, top),
+        None => change_climbed(alloc, values, kept, block, top),
     }
-    if values.len() > 16384 {
-        return Err(ObjectFault::TooMany);
-    }
-    take_change(alloc, values, kept, top, &change, names.as_slice())
 }
 
 /// Takes the block of a name that isn't in the table. After a refusal all is as before.
@@ -146,8 +185,10 @@ fn define_new(
 ) -> Result<(), ObjectFault>
     requires sound { IsSound values.old.entries kept.old.ranks.entries kept.old.uses.entries kept.old.stamp }
     requires absent { entry_of values.old.entries top.now.name ≡ None }
+    requires reach { IsReachKept values.old.entries kept.old.ranks.entries kept.old.reach.items }
     ensures sound { IsSound values.new.entries kept.new.ranks.entries kept.new.uses.entries kept.new.stamp }
     ensures answer { spec.Defines result values.old.entries values.new.entries (spec.changed_by (spec.begun values.old.entries top.now) block.now top.now) }
+    ensures reach { IsReachKept values.new.entries kept.new.ranks.entries kept.new.reach.items }
 {
     open_name(alloc, values, kept, &top.name, top.block)?;
     let result = change_value(alloc, values, kept, block, top);
@@ -169,8 +210,10 @@ pub(crate) fn define_top(
     top: &Top,
 ) -> Result<(), ObjectFault>
     requires sound { IsSound values.old.entries kept.old.ranks.entries kept.old.uses.entries kept.old.stamp }
+    requires reach { IsReachKept values.old.entries kept.old.ranks.entries kept.old.reach.items }
     ensures sound { IsSound values.new.entries kept.new.ranks.entries kept.new.uses.entries kept.new.stamp }
     ensures answer { spec.Defines result values.old.entries values.new.entries (spec.defined_by values.old.entries block.now top.now) }
+    ensures reach { IsReachKept values.new.entries kept.new.ranks.entries kept.new.reach.items }
 {
     let Some(stated) = values.get(&top.name) else {
         return define_new(alloc, values, kept, block, top);

@@ -10,8 +10,8 @@ use indexmap::IndexSet;
 use std::alloc::{AllocError, Global};
 use std::marker::Model;
 
-/// The members of a name that has former ones: these but for those that are gone, then those that are added. What is done
-/// here costs nothing that grows with the former members.
+/// The members of a name that has former ones: these but for those that are gone, then those that are added. To add a member
+/// or to take one out costs nothing that grows with the former members; one member alone costs a list of them all.
 #[derive(Debug, Drop)]
 pub(crate) struct Draft<'a> {
     former: &'a OrderedItems,

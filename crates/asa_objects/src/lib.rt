@@ -8,10 +8,15 @@ mod defining;
 mod drafting;
 mod expanding;
 mod faults;
+mod holding;
 mod knowing;
 mod opening;
 mod ordering;
 mod ranking;
+#[cfg(test)]
+mod reach_tests;
+mod reaching;
+mod renewing;
 mod stating;
 mod tabling;
 #[cfg(test)]

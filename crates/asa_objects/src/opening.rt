@@ -3,6 +3,7 @@ ghost use Rattle.std.specs.Prelude.{◌≡◌, ℕ, List, [], true, false, cond,
 ghost use Rattle.std.specs.List.{list_any};
 ghost use Rattle.asa_objects.specs.Ranks as spec;
 ghost use Rattle.asa_objects.specs.Ranks.{IsSound, has_name, users_of};
+ghost use Rattle.asa_objects.specs.Reaching.{IsReachKept};
 ghost use Rattle.asa_objects.specs.Tables.{entry_of, items_of, refers_to, same_name, with_entry, without_name};
 
 use crate::changing::Kept;
@@ -34,9 +35,11 @@ pub(crate) fn open_name(
 ) -> Result<(), AllocError>
     requires sound { IsSound values.old.entries kept.old.ranks.entries kept.old.uses.entries kept.old.stamp }
     requires absent { entry_of values.old.entries name.now ≡ None }
+    requires reach { IsReachKept values.old.entries kept.old.ranks.entries kept.old.reach.items }
     ensures sound { IsSound values.new.entries kept.new.ranks.entries kept.new.uses.entries kept.new.stamp }
     ensures ok { OnOk result (values.new.entries ≡ with_entry values.old.entries name.now (record { block = block; items = [] })) }
     ensures err { OnErr result (values.new.entries ≡ values.old.entries) }
+    ensures reach { IsReachKept values.new.entries kept.new.ranks.entries kept.new.reach.items }
 {
     let Some(next) = kept.stamp.checked_add(1) else {
         return Err(AllocError);
@@ -69,12 +72,14 @@ pub(crate) fn close_name(values: &mut BTreeMap<Name, Stated>, kept: &mut Kept, n
     ensures found { result ≡ is_some (entry_of values.old.entries name.now) }
     ensures value { values.new.entries ≡ without_name values.old.entries name.now }
     ensures sound { IsSound values.new.entries kept.new.ranks.entries kept.new.uses.entries kept.new.stamp }
+    ensures reach { kept.new.reach.items ≡ [] }
 {
+    kept.reach.clear();
     let Some(former) = values.remove(name) else {
         return false;
     };
     drop_refs(&mut kept.uses, former.items(), name);
     forget_users(&mut kept.uses, name);
-    kept.ranks.remove(name);
+    kept.ranks.swap_remove(name);
     true
 }

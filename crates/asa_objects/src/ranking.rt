@@ -1,12 +1,14 @@
 //! What is kept of a name beside its members: its label, which is above those of the names that it refers to, and how many
 //! members it has once it is expanded.
-ghost use Rattle.std.specs.Prelude.{◌≡◌, ◌+◌, ◌*◌, ◌≤◌, IfSome};
+ghost use Rattle.std.specs.Prelude.{◌≡◌, ℕ, ◌+◌, ◌*◌, ◌≤◌, List, cond, slice_get, None, Some, is_some, IfSome};
+ghost use Rattle.std.specs.Map.{keys_of};
 ghost use Rattle.asa_objects.specs.Ranks as spec;
+ghost use Rattle.asa_objects.specs.Tables.{same_name};
 ghost use Rattle.asa_objects.specs.Totalling.{AreMoved, totals_in_rank};
 
 use asa_base::Name;
 use asa_members::{GroupKind, Item};
-use std::collections::BTreeMap;
+use indexmap::IndexMap;
 use std::marker::Model;
 
 /// How much a name stands for once it is expanded. A member has at most 62 prefixes.
@@ -145,11 +147,42 @@ pub(crate) fn own_totals(group: GroupKind, item: &Item) -> Totals
 }
 
 /// The totals of a name; nothing where it has no rank.
-pub(crate) fn totals_of(ranks: &BTreeMap<Name, Rank>, name: &Name) -> Totals
+pub(crate) fn totals_of(ranks: &IndexMap<Name, Rank>, name: &Name) -> Totals
     ensures { result ≡ totals_in_rank (spec.rank_of ranks.now.entries name.now) }
 {
     match ranks.get(name) {
         Some(rank) => rank.totals,
         None => Totals::none(),
+    }
+}
+
+/// The place of a name in the order of the table of ranks, counted from 0, or None exactly where it has no rank.
+pub(crate) fn place_of(ranks: &IndexMap<Name, Rank>, name: &Name) -> Option<usize>
+    ensures place { IfSome result (λ i. slice_get (keys_of ranks.now.entries) i ≡ Some name.now) }
+    ensures found { is_some result ≡ is_some (spec.rank_of ranks.now.entries name.now) }
+{
+    ranks.get_index_of(name)
+}
+
+/// The rank at a place, counted from 0 in the order of the table of ranks, or None where there is no such place.
+pub(crate) fn rank_at(ranks: &IndexMap<Name, Rank>, place: usize) -> Option<Rank>
+    ensures found { (name : List ℕ) → slice_get (keys_of ranks.now.entries) place ≡ Some name → result ≡ spec.rank_of ranks.now.entries name }
+    ensures past { slice_get (keys_of ranks.now.entries) place ≡ None → result ≡ None }
+{
+    match ranks.get_index(place) {
+        Some((_, rank)) => Some(*rank),
+        None => None,
+    }
+}
+
+/// Puts another rank at a place, counted from 0 in the order of the table of ranks. Nothing changes where there is no such
+/// place.
+pub(crate) fn set_rank_at(ranks: &mut IndexMap<Name, Rank>, place: usize, rank: Rank)
+    ensures value { (name : List ℕ) → slice_get (keys_of ranks.old.entries) place ≡ Some name → (q : List ℕ) → spec.rank_of ranks.new.entries q ≡ cond (same_name name q) (Some rank) (spec.rank_of ranks.old.entries q) }
+    ensures keys { keys_of ranks.new.entries ≡ keys_of ranks.old.entries }
+    ensures past { slice_get (keys_of ranks.old.entries) place ≡ None → ranks.new.entries ≡ ranks.old.entries }
+{
+    if let Some(old) = ranks.get_index_mut(place) {
+        *old = rank;
     }
 }

@@ -12,6 +12,7 @@ use crate::climbing::reaching;
 use crate::defining::define_top;
 use crate::expanding::{ExpandFault, expand_network, expand_service, list_members, list_services};
 use crate::faults::ObjectFault;
+use crate::holding::kept_reach;
 use crate::knowing::{kind_in, port_proto_in, service_range_in};
 use crate::opening::close_name;
 use crate::ranking::totals_of;
@@ -19,7 +20,8 @@ use crate::stating::top_of;
 use crate::using::first_user;
 use crate::valuing::Stated;
 use asa_base::{Kind, Member, Name, PortProto, Service};
-use asa_text::{Block, Items};
+use asa_text::{Block, Items, Shared};
+use indexmap::IndexMap;
 use std::alloc::{AllocError, Global};
 use std::collections::BTreeMap;
 use std::marker::Model;
@@ -36,12 +38,13 @@ pub struct Objects {
 impl Model for Objects {
     ghost use Rattle.asa_objects.specs.Tables.{Table};
     ghost use Rattle.asa_objects.specs.Ranks.{IsSound};
+    ghost use Rattle.asa_objects.specs.Reaching.{IsReachKept};
 
     ghost Value = { Table };
 
     ghost view = { λ o. o.values.entries };
 
-    ghost invariant = { λ o. IsSound o.values.entries o.kept.ranks.entries o.kept.uses.entries o.kept.stamp };
+    ghost invariant = { λ o. IsSound o.values.entries o.kept.ranks.entries o.kept.uses.entries o.kept.stamp × IsReachKept o.values.entries o.kept.ranks.entries o.kept.reach.items };
 }
 
 impl Objects {
@@ -52,9 +55,10 @@ impl Objects {
         Objects {
             values: BTreeMap::new(alloc),
             kept: Kept {
-                ranks: BTreeMap::new(alloc),
+                ranks: IndexMap::new(alloc),
                 uses: BTreeMap::new(alloc),
                 stamp: 1,
+                reach: Vec::new(alloc),
             },
             alloc,
         }
@@ -65,7 +69,7 @@ impl Objects {
         ensures { IfOk result (λ o. o ≡ self.now) }
     {
         let values = copy_values(&self.values)?;
-        let kept = self.kept.copy()?;
+        let kept = self.kept.copy(self.alloc)?;
         Ok(Objects {
             values,
             kept,
@@ -175,21 +179,24 @@ impl Objects {
 
     /// The names that reach what a block defines: itself, the groups that name it, those that name these, and so on; none
     /// where the block's first line can't be read.
-    pub fn reaching(&self, alloc: Global, block: &Block) -> Result<Items<Name>, AllocError>
+    pub fn reaching(&self, alloc: Global, block: &Block) -> Result<Shared<Items<Name>>, AllocError>
         ensures { IfOk result (λ names. ForName block.now (λ name. (q : List ℕ) → has_name names q ≡ table.reaches self.now q name)) }
     {
-        let names = match top_of(block) {
-            Ok(top) => reaching(
-                alloc,
-                &self.values,
-                &self.kept.ranks,
-                &self.kept.uses,
-                self.kept.stamp,
-                &top.name,
-            )?,
-            Err(_) => Vec::new(alloc),
+        let Ok(top) = top_of(block) else {
+            return Shared::new(alloc, Items::new(alloc));
         };
-        Ok(Items::from(names))
+        if let Some(reach) = kept_reach(&self.kept, &top.name)? {
+            return reach.get().names.share();
+        }
+        let names = reaching(
+            alloc,
+            &self.values,
+            &self.kept.ranks,
+            &self.kept.uses,
+            self.kept.stamp,
+            &top.name,
+        )?;
+        Shared::new(alloc, Items::from(names))
     }
 
     /// Takes a block of an object or of a group, as a whole or not at all. The first line defines its name for the lines

@@ -14,6 +14,7 @@ use crate::ranking::{Rank, Totals, totals_of};
 use crate::valuing::Stated;
 use asa_base::Name;
 use asa_members::Item;
+use indexmap::IndexMap;
 use std::alloc::Global;
 use std::collections::{BTreeMap, BTreeSet};
 
@@ -25,7 +26,7 @@ fn is_small(totals: Totals) -> bool
 }
 
 /// These totals, where they are within the limit.
-fn limited(totals: Totals) -> Result<Totals, ObjectFault>
+pub(crate) fn limited(totals: Totals) -> Result<Totals, ObjectFault>
     ensures { total.Limits totals result }
 {
     if is_small(totals) {
@@ -36,14 +37,14 @@ fn limited(totals: Totals) -> Result<Totals, ObjectFault>
 }
 
 /// Whether two names are the same.
-fn is_same(a: &Name, b: &Name) -> bool
+pub(crate) fn is_same(a: &Name, b: &Name) -> bool
     ensures { result ≡ same_name a.now b.now }
 {
     a.cmp(b).is_eq()
 }
 
 /// The running totals of a name, or else those that are kept of it.
-fn sum_now(ranks: &BTreeMap<Name, Rank>, sums: &BTreeMap<Name, Totals>, name: &Name) -> Totals
+fn sum_now(ranks: &IndexMap<Name, Rank>, sums: &BTreeMap<Name, Totals>, name: &Name) -> Totals
     ensures { result ≡ total.sum_now sums.now.entries ranks.now.entries name.now }
 {
     match sums.get(name) {
@@ -54,7 +55,7 @@ fn sum_now(ranks: &BTreeMap<Name, Rank>, sums: &BTreeMap<Name, Totals>, name: &N
 
 /// The new totals of a name: those that are told, where it is the name whose value changes, or else its running totals.
 fn totals_for(
-    ranks: &BTreeMap<Name, Rank>,
+    ranks: &IndexMap<Name, Rank>,
     sums: &BTreeMap<Name, Totals>,
     changed: &Name,
     told: Totals,
@@ -78,7 +79,7 @@ fn one_if(holds: bool) -> u64
     if holds { 1 } else { 0 }
 }
 
-/// How often the members of a value refer to a name: an object and a group of one name may both be there.
+/// How often the members of a value refer to a name: as an object and as a group, of which a name is only one.
 fn times(stated: &Stated, name: &Name) -> u64
     ensures { result ≡ total.times name.now stated.now.items }
 {
@@ -88,7 +89,7 @@ fn times(stated: &Stated, name: &Name) -> u64
 }
 
 /// How often the members of a user refer to a name.
-fn times_at(values: &BTreeMap<Name, Stated>, user: &Name, name: &Name) -> u64
+pub(crate) fn times_at(values: &BTreeMap<Name, Stated>, user: &Name, name: &Name) -> u64
     ensures { result ≡ total.times name.now (items_of values.now.entries user.now) }
 {
     match values.get(user) {
@@ -115,7 +116,7 @@ fn put_sum(
 /// Tells a user of a name that its old totals became new ones. A total that passes its type's end counts as want of memory.
 fn pass_to(
     values: &BTreeMap<Name, Stated>,
-    ranks: &BTreeMap<Name, Rank>,
+    ranks: &IndexMap<Name, Rank>,
     sums: &mut BTreeMap<Name, Totals>,
     name: &Name,
     old: Totals,
@@ -135,7 +136,7 @@ fn pass_to(
 /// Tells each of the users of a name that its old totals became new ones.
 fn pass_to_all(
     values: &BTreeMap<Name, Stated>,
-    ranks: &BTreeMap<Name, Rank>,
+    ranks: &IndexMap<Name, Rank>,
     sums: &mut BTreeMap<Name, Totals>,
     name: &Name,
     old: Totals,
@@ -185,7 +186,7 @@ fn pass_on(
 #[derive(Debug, Drop)]
 pub(crate) struct Renewed {
     /// The ranks.
-    pub(crate) ranks: BTreeMap<Name, Rank>,
+    pub(crate) ranks: IndexMap<Name, Rank>,
     /// The label after the last that was given.
     pub(crate) label: u64,
 }
@@ -204,7 +205,7 @@ pub(crate) fn renew(
     requires { spec.IsSound values.now.entries kept.now.ranks.entries kept.now.uses.entries kept.now.stamp }
     ensures { (after : Table) → total.IsTold values.now.entries after kept.now.ranks.entries changed.now told names.now → total.Renews after kept.now.ranks.entries kept.now.stamp names.now result }
 {
-    let mut new = BTreeMap::new(alloc);
+    let mut new = IndexMap::new(alloc);
     let mut sums = BTreeMap::new(alloc);
     let mut label = kept.stamp;
     for name in names {
@@ -217,7 +218,7 @@ pub(crate) fn renew(
 }
 
 /// Puts the rank of a name.
-fn put_rank(ranks: &mut BTreeMap<Name, Rank>, name: &Name, rank: Rank) -> Result<(), ObjectFault>
+fn put_rank(ranks: &mut IndexMap<Name, Rank>, name: &Name, rank: Rank) -> Result<(), ObjectFault>
     ensures ok { OnOk result ((q : List ℕ) → spec.rank_of ranks.new.entries q ≡ cond (same_name name.now q) (Some rank) (spec.rank_of ranks.old.entries q)) }
     ensures err { IfErr result (λ f. f ≡ fault.NoMemory) }
 {
@@ -228,7 +229,7 @@ fn put_rank(ranks: &mut BTreeMap<Name, Rank>, name: &Name, rank: Rank) -> Result
 }
 
 /// The label after another.
-fn next_label(label: u64) -> Result<u64, ObjectFault>
+pub(crate) fn next_label(label: u64) -> Result<u64, ObjectFault>
     ensures ok { IfOk result (λ n. n ≡ label + 1) }
     ensures err { IfErr result (λ f. f ≡ fault.NoMemory) }
 {

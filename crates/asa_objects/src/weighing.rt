@@ -8,10 +8,10 @@ use crate::ranking::{Rank, Totals, own_totals, totals_of};
 use crate::valuing::name_in;
 use asa_base::Name;
 use asa_members::{GroupKind, Item};
-use std::collections::BTreeMap;
+use indexmap::IndexMap;
 
 /// What is kept of the name that a member refers to, where it refers to one.
-fn kept_of(ranks: &BTreeMap<Name, Rank>, item: &Item) -> Totals
+fn kept_of(ranks: &IndexMap<Name, Rank>, item: &Item) -> Totals
     ensures { result ≡ spec.kept_of ranks.now.entries (named item.now) }
 {
     match name_in(item) {
@@ -21,7 +21,7 @@ fn kept_of(ranks: &BTreeMap<Name, Rank>, item: &Item) -> Totals
 }
 
 /// How much a member counts.
-fn weight_of(ranks: &BTreeMap<Name, Rank>, group: GroupKind, item: &Item) -> Option<Totals>
+fn weight_of(ranks: &IndexMap<Name, Rank>, group: GroupKind, item: &Item) -> Option<Totals>
     ensures { IfSome result (λ t. t ≡ spec.weight ranks.now.entries group item.now) }
 {
     own_totals(group, item).plus(kept_of(ranks, item))
@@ -29,7 +29,7 @@ fn weight_of(ranks: &BTreeMap<Name, Rank>, group: GroupKind, item: &Item) -> Opt
 
 /// How much members count together.
 pub(crate) fn weight_of_slice(
-    ranks: &BTreeMap<Name, Rank>,
+    ranks: &IndexMap<Name, Rank>,
     group: GroupKind,
     items: &[Item],
 ) -> Option<Totals>
@@ -44,7 +44,7 @@ pub(crate) fn weight_of_slice(
 
 /// How much members count together.
 pub(crate) fn weight_of_items(
-    ranks: &BTreeMap<Name, Rank>,
+    ranks: &IndexMap<Name, Rank>,
     group: GroupKind,
     items: &OrderedItems,
 ) -> Option<Totals>

@@ -9,7 +9,7 @@ use Rattle.asa_objects.proofs.tabling.Objects.prefix_total.Goals as goal
 
 pub returns-clause-value : goal.returns-clause-value
 returns-clause-value c = c.prefixes.ensures.value ∙ ap (amount prefixes) c.totals_of.ensures ∙ sym (amount-rank prefixes (rank_of c.self.inside.kept.ranks.entries c.args.name.now))
-    ∙ kept-prefixes c.self.inside.values.entries c.self.inside.kept.ranks.entries c.self.inside.kept.uses.entries c.self.inside.kept.stamp c.self.invariant c.args.name.now
+    ∙ kept-prefixes c.self.inside.values.entries c.self.inside.kept.ranks.entries c.self.inside.kept.uses.entries c.self.inside.kept.stamp c.self.invariant.0 c.args.name.now
     ∙ total-sum member_prefix_count (members_of c.self.inside.values.entries c.args.name.now)
     ∙ ap (λ (t : Table). sum_by member_prefix_count (members_of t c.args.name.now)) c.self.view_is
 
@@ -17,4 +17,4 @@ pub returns-clause-few : goal.returns-clause-few
 returns-clause-few c =
     let kept = amount-rank members (rank_of c.self.inside.kept.ranks.entries c.args.name.now) in
     let found = ap (amount members) c.totals_of.ensures in
-    omega (arith, c.prefixes.ensures.few, (c.self.invariant.small c.args.name.now).0)
+    omega (arith, c.prefixes.ensures.few, (c.self.invariant.0.small c.args.name.now).0)

@@ -12,5 +12,5 @@ pub returns-clause-kept : goal.returns-clause-kept
 returns-clause-kept c =
     subst (λ (t : Table). KeepsRest t c.close_name.new.values.entries c.args.name.now) c.self.view_is
     (remove-keeps c.self.inside.values.entries c.close_name.new.values.entries c.self.inside.kept.ranks.entries c.close_name.new.kept.ranks.entries c.self.inside.kept.uses.entries c.close_name.new.kept.uses.entries
-    c.self.inside.kept.stamp c.close_name.new.kept.stamp c.self.invariant c.close_name.ensures.sound c.args.name.now c.close_name.ensures.value
+    c.self.inside.kept.stamp c.close_name.new.kept.stamp c.self.invariant.0 c.close_name.ensures.sound c.args.name.now c.close_name.ensures.value
     (λ q. unused-by c.self.inside.values.entries c.args.name.now (ap (λ (t : Table). user_of t c.args.name.now) c.self.view_is ∙ c.requires) q))

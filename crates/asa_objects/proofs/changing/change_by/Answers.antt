@@ -1,0 +1,120 @@
+use Rattle.std.proofs.Common.{◌≡◌, List, length, Result, Ok, Err, rules, sym, subst, ap, ◌∙◌}
+use Rattle.asa_objects.specs.declared.ranking.Rank.{Rank}
+use Rattle.asa_objects.specs.declared.faults.ObjectFault.{ObjectFault}
+use Rattle.asa_objects.specs.Changing.{Replaces, changed_at}
+use Rattle.asa_objects.specs.Ranks.{IsSound, label_in, label_of, rank_of}
+use Rattle.asa_objects.specs.Reaching.{AreApart, AreTimes, IsPlaced, IsReach, IsReachKept, RenewsBy, names_in, ranks_by, retotaled}
+use Rattle.asa_objects.specs.Tables.{Table}
+use Rattle.asa_objects.specs.Totalling.{IsRenewed, IsTold, Renews, newer}
+use Rattle.asa_objects.specs.Using.{AreUsed, AreUnused, unused_in}
+use Rattle.std.specs.List.{AllByRecursion}
+use Rattle.asa_objects.proofs.WayLaws.{rises-apart}
+use Rattle.asa_objects.proofs.StayLaws.{kept-plain, placed-same, reach-after, reach-plain}
+use Rattle.asa_objects.proofs.ByLaws.{retotaled-label}
+use Rattle.asa_objects.proofs.MoveLaws.{by-refused, move-told, move-refused, move-sound}
+use Rattle.asa_objects.proofs.SettleLaws.{move-settle}
+use Rattle.asa_objects.proofs.ReplaceLaws.{sound-users}
+use Rattle.asa_objects.proofs.changing.change_by.Goals as goal
+
+pub returns-in_err-renewed-clause-answer : goal.returns-in_err-renewed-clause-answer
+returns-in_err-renewed-clause-answer c =
+    let same : c.from_residual-in_err-renewed.result ≡ Err c.in_err-renewed.field-0.0 = search rules in
+    subst (λ (r : Result (Unit {0}) ObjectFault). Replaces c.args.values.now.entries c.args.values.now.entries (changed_at c.args.values.now.entries c.args.reach.now.name c.args.change.now.gone.keys c.args.change.now.added) r) (sym same)
+    (move-refused c.args.values.now.entries c.args.kept.now.ranks.entries c.args.kept.now.uses.entries c.args.kept.now.stamp c.args.reach.now.name c.args.change.now.gone.keys c.args.change.now.added (names_in c.args.reach.now.ways.items) c.requires.sound c.requires.reach.above c.requires.fits c.requires.there c.in_ok-effect.ensures.distinct c.requires.former c.in_ok-effect.effect.totals c.in_ok-effect.ensures.totals c.in_err-renewed.field-0.0
+    (subst (λ ws. Renews (changed_at c.args.values.now.entries c.args.reach.now.name c.args.change.now.gone.keys c.args.change.now.added) c.args.kept.now.ranks.entries c.args.kept.now.stamp (names_in ws) (Err c.in_err-renewed.field-0.0)) c.as_slice-ways.ensures.value
+    (by-refused (changed_at c.args.values.now.entries c.args.reach.now.name c.args.change.now.gone.keys c.args.change.now.added) c.args.kept.now.ranks.entries c.args.kept.now.stamp c.as_slice-ways.result.now c.in_err-renewed.field-0.0
+    (c.in_err-renewed.ensures c.args.values.now.entries (changed_at c.args.values.now.entries c.args.reach.now.name c.args.change.now.gone.keys c.args.change.now.added) c.args.kept.now.uses.entries c.args.reach.now.name c.requires.sound (subst (AreTimes c.args.values.now.entries c.args.reach.now.name) (sym c.as_slice-ways.ensures.value) c.requires.reach.times) c.totals_of-old.ensures (subst (λ ws. IsTold c.args.values.now.entries (changed_at c.args.values.now.entries c.args.reach.now.name c.args.change.now.gone.keys c.args.change.now.added) c.args.kept.now.ranks.entries c.args.reach.now.name c.in_ok-effect.effect.totals (names_in ws)) (sym c.as_slice-ways.ensures.value)
+    (move-told c.args.values.now.entries c.args.kept.now.ranks.entries c.args.kept.now.uses.entries c.args.kept.now.stamp c.args.reach.now.name c.args.change.now.gone.keys c.args.change.now.added (names_in c.args.reach.now.ways.items) c.requires.sound c.requires.reach.above c.requires.fits c.requires.there c.in_ok-effect.ensures.distinct c.requires.former c.in_ok-effect.effect.totals c.in_ok-effect.ensures.totals))))))
+
+pub returns-in_err-take_effect-clause-sound : goal.returns-in_err-take_effect-clause-sound
+returns-in_err-take_effect-clause-sound c =
+    subst (λ (t : Table). IsSound t c.args.kept.now.ranks.entries c.take_effect.new.uses.entries c.args.kept.now.stamp) (sym c.in_err-take_effect.ensures.err)
+    (sound-users c.args.values.now.entries c.args.kept.now.ranks.entries c.args.kept.now.uses.entries c.take_effect.new.uses.entries c.args.kept.now.stamp c.requires.sound c.in_err-take_effect.ensures.users_err)
+
+pub set_by-requires-clause-placed : goal.set_by-requires-clause-placed
+set_by-requires-clause-placed c = subst (AllByRecursion (IsPlaced c.args.kept.now.ranks.entries)) (sym c.as_slice-ways.ensures.value) c.requires.reach.placed
+
+pub set_by-requires-clause-apart : goal.set_by-requires-clause-apart
+set_by-requires-clause-apart c = subst (λ ws. AreApart (names_in ws)) (sym c.as_slice-ways.ensures.value)
+    (rises-apart (label_of c.args.kept.now.ranks.entries) (names_in c.args.reach.now.ways.items) c.requires.reach.above.rising)
+
+pub set_by-requires-clause-each : goal.set_by-requires-clause-each
+set_by-requires-clause-each c =
+    let renews : RenewsBy (changed_at c.args.values.now.entries c.args.reach.now.name c.args.change.now.gone.keys c.args.change.now.added) c.args.kept.now.ranks.entries c.args.kept.now.stamp c.as_slice-ways.result.now (Ok c.in_ok-renewed.renewed) =
+    c.in_ok-renewed.ensures c.args.values.now.entries (changed_at c.args.values.now.entries c.args.reach.now.name c.args.change.now.gone.keys c.args.change.now.added) c.args.kept.now.uses.entries c.args.reach.now.name c.requires.sound (subst (AreTimes c.args.values.now.entries c.args.reach.now.name) (sym c.as_slice-ways.ensures.value) c.requires.reach.times) c.totals_of-old.ensures (subst (λ ws. IsTold c.args.values.now.entries (changed_at c.args.values.now.entries c.args.reach.now.name c.args.change.now.gone.keys c.args.change.now.added) c.args.kept.now.ranks.entries c.args.reach.now.name c.in_ok-effect.effect.totals (names_in ws)) (sym c.as_slice-ways.ensures.value)
+    (move-told c.args.values.now.entries c.args.kept.now.ranks.entries c.args.kept.now.uses.entries c.args.kept.now.stamp c.args.reach.now.name c.args.change.now.gone.keys c.args.change.now.added (names_in c.args.reach.now.ways.items) c.requires.sound c.requires.reach.above c.requires.fits c.requires.there c.in_ok-effect.ensures.distinct c.requires.former c.in_ok-effect.effect.totals c.in_ok-effect.ensures.totals)) in
+    ap (λ (rs : List Rank). length rs) c.as_slice-2.ensures.value ∙ renews.0
+
+pub returns-clause-sound : goal.returns-clause-sound
+returns-clause-sound c =
+    let renews : RenewsBy (changed_at c.args.values.now.entries c.args.reach.now.name c.args.change.now.gone.keys c.args.change.now.added) c.args.kept.now.ranks.entries c.args.kept.now.stamp c.as_slice-ways.result.now (Ok c.in_ok-renewed.renewed) =
+    c.in_ok-renewed.ensures c.args.values.now.entries (changed_at c.args.values.now.entries c.args.reach.now.name c.args.change.now.gone.keys c.args.change.now.added) c.args.kept.now.uses.entries c.args.reach.now.name c.requires.sound (subst (AreTimes c.args.values.now.entries c.args.reach.now.name) (sym c.as_slice-ways.ensures.value) c.requires.reach.times) c.totals_of-old.ensures (subst (λ ws. IsTold c.args.values.now.entries (changed_at c.args.values.now.entries c.args.reach.now.name c.args.change.now.gone.keys c.args.change.now.added) c.args.kept.now.ranks.entries c.args.reach.now.name c.in_ok-effect.effect.totals (names_in ws)) (sym c.as_slice-ways.ensures.value)
+    (move-told c.args.values.now.entries c.args.kept.now.ranks.entries c.args.kept.now.uses.entries c.args.kept.now.stamp c.args.reach.now.name c.args.change.now.gone.keys c.args.change.now.added (names_in c.args.reach.now.ways.items) c.requires.sound c.requires.reach.above c.requires.fits c.requires.there c.in_ok-effect.ensures.distinct c.requires.former c.in_ok-effect.effect.totals c.in_ok-effect.ensures.totals)) in
+    subst (λ (t : Table). IsSound t c.set_by.new.ranks.entries c.take_effect.new.uses.entries c.in_ok-renewed.renewed.label) (sym c.in_ok-take_effect.ensures.ok)
+    (move-sound c.args.values.now.entries c.args.kept.now.ranks.entries c.args.kept.now.uses.entries c.args.kept.now.stamp c.args.reach.now.name c.args.change.now.gone.keys c.args.change.now.added (names_in c.args.reach.now.ways.items) c.requires.sound c.requires.reach.above c.requires.fits c.requires.there c.in_ok-effect.ensures.distinct c.requires.former c.in_ok-effect.effect.totals c.in_ok-effect.ensures.totals
+    (ranks_by c.as_slice-ways.result.now c.in_ok-renewed.renewed.ranks.items) c.in_ok-renewed.renewed.label
+    (subst (λ ws. IsRenewed (changed_at c.args.values.now.entries c.args.reach.now.name c.args.change.now.gone.keys c.args.change.now.added) c.args.kept.now.ranks.entries c.args.kept.now.stamp (names_in ws) (ranks_by c.as_slice-ways.result.now c.in_ok-renewed.renewed.ranks.items) c.in_ok-renewed.renewed.label) c.as_slice-ways.ensures.value renews.1) renews.2
+    c.set_by.new.ranks.entries
+    (subst (λ (rs : List Rank). (q : _) → rank_of c.set_by.new.ranks.entries q ≡ newer (rank_of (ranks_by c.as_slice-ways.result.now rs) q) (rank_of c.args.kept.now.ranks.entries q)) c.as_slice-2.ensures.value c.set_by.ensures.value)
+    c.in_ok-take_effect.ensures.users.0 c.take_effect.new.uses.entries
+    (subst (λ rs. AreUsed c.args.kept.now.uses.entries c.in_ok-take_effect.ensures.users.0 c.args.reach.now.name (unused_in c.args.kept.now.uses.entries rs c.args.reach.now.name)) c.in_ok-effect.ensures.refs c.in_ok-take_effect.ensures.users.1)
+    (subst (AreUnused c.in_ok-take_effect.ensures.users.0 c.take_effect.new.uses.entries c.args.reach.now.name) c.in_ok-effect.ensures.freed c.in_ok-take_effect.ensures.users.2))
+
+pub returns-clause-reach : goal.returns-clause-reach
+returns-clause-reach c =
+    let renews : RenewsBy (changed_at c.args.values.now.entries c.args.reach.now.name c.args.change.now.gone.keys c.args.change.now.added) c.args.kept.now.ranks.entries c.args.kept.now.stamp c.as_slice-ways.result.now (Ok c.in_ok-renewed.renewed) =
+    c.in_ok-renewed.ensures c.args.values.now.entries (changed_at c.args.values.now.entries c.args.reach.now.name c.args.change.now.gone.keys c.args.change.now.added) c.args.kept.now.uses.entries c.args.reach.now.name c.requires.sound (subst (AreTimes c.args.values.now.entries c.args.reach.now.name) (sym c.as_slice-ways.ensures.value) c.requires.reach.times) c.totals_of-old.ensures (subst (λ ws. IsTold c.args.values.now.entries (changed_at c.args.values.now.entries c.args.reach.now.name c.args.change.now.gone.keys c.args.change.now.added) c.args.kept.now.ranks.entries c.args.reach.now.name c.in_ok-effect.effect.totals (names_in ws)) (sym c.as_slice-ways.ensures.value)
+    (move-told c.args.values.now.entries c.args.kept.now.ranks.entries c.args.kept.now.uses.entries c.args.kept.now.stamp c.args.reach.now.name c.args.change.now.gone.keys c.args.change.now.added (names_in c.args.reach.now.ways.items) c.requires.sound c.requires.reach.above c.requires.fits c.requires.there c.in_ok-effect.ensures.distinct c.requires.former c.in_ok-effect.effect.totals c.in_ok-effect.ensures.totals)) in
+    subst (λ (t : Table). IsReach t c.set_by.new.ranks.entries c.args.reach.now) (sym c.in_ok-take_effect.ensures.ok)
+    (reach-after c.args.values.now.entries c.args.kept.now.ranks.entries c.args.kept.now.uses.entries c.args.kept.now.stamp c.args.reach.now c.args.change.now.gone.keys c.args.change.now.added c.requires.sound c.requires.reach c.requires.there c.requires.fits
+    (ranks_by c.as_slice-ways.result.now c.in_ok-renewed.renewed.ranks.items) c.in_ok-renewed.renewed.label
+    (subst (λ ws. IsRenewed (changed_at c.args.values.now.entries c.args.reach.now.name c.args.change.now.gone.keys c.args.change.now.added) c.args.kept.now.ranks.entries c.args.kept.now.stamp (names_in ws) (ranks_by c.as_slice-ways.result.now c.in_ok-renewed.renewed.ranks.items) c.in_ok-renewed.renewed.label) c.as_slice-ways.ensures.value renews.1)
+    c.set_by.new.ranks.entries
+    (subst (λ (rs : List Rank). (q : _) → rank_of c.set_by.new.ranks.entries q ≡ newer (rank_of (ranks_by c.as_slice-ways.result.now rs) q) (rank_of c.args.kept.now.ranks.entries q)) c.as_slice-2.ensures.value c.set_by.ensures.value)
+    c.take_effect.new.uses.entries c.in_ok-renewed.renewed.label (subst (λ (t : Table). IsSound t c.set_by.new.ranks.entries c.take_effect.new.uses.entries c.in_ok-renewed.renewed.label) c.in_ok-take_effect.ensures.ok (returns-clause-sound c))
+    (placed-same c.args.kept.now.ranks.entries c.set_by.new.ranks.entries c.args.reach.now.ways.items c.set_by.ensures.keys c.requires.reach.placed))
+
+pub retotal_by-requires-clause-apart : goal.retotal_by-requires-clause-apart
+retotal_by-requires-clause-apart c = subst (λ ws. AreApart (names_in ws)) (sym c.as_slice-ways.ensures.value)
+    (rises-apart (label_of c.args.kept.now.ranks.entries) (names_in c.args.reach.now.ways.items) c.requires.reach.above.rising)
+
+pub retotal_by-requires-clause-each : goal.retotal_by-requires-clause-each
+retotal_by-requires-clause-each c =
+    let renews : RenewsBy (changed_at c.args.values.now.entries c.args.reach.now.name c.args.change.now.gone.keys c.args.change.now.added) c.args.kept.now.ranks.entries c.args.kept.now.stamp c.as_slice-ways.result.now (Ok c.in_ok-renewed.renewed) =
+    c.in_ok-renewed.ensures c.args.values.now.entries (changed_at c.args.values.now.entries c.args.reach.now.name c.args.change.now.gone.keys c.args.change.now.added) c.args.kept.now.uses.entries c.args.reach.now.name c.requires.sound (subst (AreTimes c.args.values.now.entries c.args.reach.now.name) (sym c.as_slice-ways.ensures.value) c.requires.reach.times) c.totals_of-old.ensures (subst (λ ws. IsTold c.args.values.now.entries (changed_at c.args.values.now.entries c.args.reach.now.name c.args.change.now.gone.keys c.args.change.now.added) c.args.kept.now.ranks.entries c.args.reach.now.name c.in_ok-effect.effect.totals (names_in ws)) (sym c.as_slice-ways.ensures.value)
+    (move-told c.args.values.now.entries c.args.kept.now.ranks.entries c.args.kept.now.uses.entries c.args.kept.now.stamp c.args.reach.now.name c.args.change.now.gone.keys c.args.change.now.added (names_in c.args.reach.now.ways.items) c.requires.sound c.requires.reach.above c.requires.fits c.requires.there c.in_ok-effect.ensures.distinct c.requires.former c.in_ok-effect.effect.totals c.in_ok-effect.ensures.totals)) in
+    ap (λ (rs : List Rank). length rs) c.as_slice.ensures.value ∙ renews.0
+
+pub returns-then-is_plain-clause-sound : goal.returns-then-is_plain-clause-sound
+returns-then-is_plain-clause-sound c =
+    let renews : RenewsBy (changed_at c.args.values.now.entries c.args.reach.now.name c.args.change.now.gone.keys c.args.change.now.added) c.args.kept.now.ranks.entries c.args.kept.now.stamp c.as_slice-ways.result.now (Ok c.in_ok-renewed.renewed) =
+    c.in_ok-renewed.ensures c.args.values.now.entries (changed_at c.args.values.now.entries c.args.reach.now.name c.args.change.now.gone.keys c.args.change.now.added) c.args.kept.now.uses.entries c.args.reach.now.name c.requires.sound (subst (AreTimes c.args.values.now.entries c.args.reach.now.name) (sym c.as_slice-ways.ensures.value) c.requires.reach.times) c.totals_of-old.ensures (subst (λ ws. IsTold c.args.values.now.entries (changed_at c.args.values.now.entries c.args.reach.now.name c.args.change.now.gone.keys c.args.change.now.added) c.args.kept.now.ranks.entries c.args.reach.now.name c.in_ok-effect.effect.totals (names_in ws)) (sym c.as_slice-ways.ensures.value)
+    (move-told c.args.values.now.entries c.args.kept.now.ranks.entries c.args.kept.now.uses.entries c.args.kept.now.stamp c.args.reach.now.name c.args.change.now.gone.keys c.args.change.now.added (names_in c.args.reach.now.ways.items) c.requires.sound c.requires.reach.above c.requires.fits c.requires.there c.in_ok-effect.ensures.distinct c.requires.former c.in_ok-effect.effect.totals c.in_ok-effect.ensures.totals)) in
+    subst (λ (t : Table). IsSound t c.retotal_by.new.ranks.entries c.take_effect.new.uses.entries c.args.kept.now.stamp) (sym c.in_ok-take_effect.ensures.ok)
+    (move-settle c.args.values.now.entries c.args.kept.now.ranks.entries c.args.kept.now.uses.entries c.args.kept.now.stamp c.args.reach.now.name c.args.change.now.gone.keys c.args.change.now.added (names_in c.args.reach.now.ways.items) c.requires.sound c.requires.reach.above c.requires.fits c.requires.there c.in_ok-effect.ensures.distinct c.requires.former c.in_ok-effect.effect.totals c.in_ok-effect.ensures.totals
+    (ranks_by c.as_slice-ways.result.now c.in_ok-renewed.renewed.ranks.items) c.in_ok-renewed.renewed.label
+    (subst (λ ws. IsRenewed (changed_at c.args.values.now.entries c.args.reach.now.name c.args.change.now.gone.keys c.args.change.now.added) c.args.kept.now.ranks.entries c.args.kept.now.stamp (names_in ws) (ranks_by c.as_slice-ways.result.now c.in_ok-renewed.renewed.ranks.items) c.in_ok-renewed.renewed.label) c.as_slice-ways.ensures.value renews.1) renews.2
+    c.retotal_by.new.ranks.entries
+    (subst (λ (rs : List Rank). (q : _) → rank_of c.retotal_by.new.ranks.entries q ≡ retotaled (rank_of (ranks_by c.as_slice-ways.result.now rs) q) (rank_of c.args.kept.now.ranks.entries q)) c.as_slice.ensures.value c.retotal_by.ensures.value)
+    c.in_ok-take_effect.ensures.users.0 c.take_effect.new.uses.entries
+    (subst (λ rs. AreUsed c.args.kept.now.uses.entries c.in_ok-take_effect.ensures.users.0 c.args.reach.now.name (unused_in c.args.kept.now.uses.entries rs c.args.reach.now.name)) c.in_ok-effect.ensures.refs c.in_ok-take_effect.ensures.users.1)
+    (subst (AreUnused c.in_ok-take_effect.ensures.users.0 c.take_effect.new.uses.entries c.args.reach.now.name) c.in_ok-effect.ensures.freed c.in_ok-take_effect.ensures.users.2)
+    (c.is_plain.ensures c.if-is_plain.true).1)
+
+pub returns-then-is_plain-clause-reach : goal.returns-then-is_plain-clause-reach
+returns-then-is_plain-clause-reach c =
+    let plain = c.is_plain.ensures c.if-is_plain.true in
+    subst (λ (t : Table). IsReach t c.retotal_by.new.ranks.entries c.args.reach.now) (sym c.in_ok-take_effect.ensures.ok)
+    (reach-plain c.args.values.now.entries c.args.kept.now.ranks.entries c.retotal_by.new.ranks.entries c.args.kept.now.uses.entries c.take_effect.new.uses.entries c.args.kept.now.stamp c.args.kept.now.stamp c.args.reach.now
+    c.args.reach.now.name c.args.change.now.gone.keys c.args.change.now.added c.requires.sound c.requires.reach c.requires.there c.in_ok-effect.ensures.distinct c.requires.former plain.0 plain.1
+    (λ q. ap label_in (c.retotal_by.ensures.value q) ∙ retotaled-label (rank_of (ranks_by c.as_slice-ways.result.now c.as_slice.result.now) q) (rank_of c.args.kept.now.ranks.entries q)) c.retotal_by.ensures.keys
+    (subst (λ (t : Table). IsSound t c.retotal_by.new.ranks.entries c.take_effect.new.uses.entries c.args.kept.now.stamp) c.in_ok-take_effect.ensures.ok (returns-then-is_plain-clause-sound c)))
+
+pub returns-then-is_plain-clause-kept : goal.returns-then-is_plain-clause-kept
+returns-then-is_plain-clause-kept c =
+    let plain = c.is_plain.ensures c.if-is_plain.true in
+    subst (λ (t : Table). IsReachKept t c.retotal_by.new.ranks.entries c.args.kept.now.reach.items) (sym c.in_ok-take_effect.ensures.ok)
+    (kept-plain c.args.values.now.entries c.args.kept.now.ranks.entries c.retotal_by.new.ranks.entries c.args.kept.now.uses.entries c.take_effect.new.uses.entries c.args.kept.now.stamp c.args.kept.now.stamp c.args.kept.now.reach.items
+    c.args.reach.now.name c.args.change.now.gone.keys c.args.change.now.added c.requires.sound c.requires.kept c.requires.there c.in_ok-effect.ensures.distinct c.requires.former plain.0 plain.1
+    (λ q. ap label_in (c.retotal_by.ensures.value q) ∙ retotaled-label (rank_of (ranks_by c.as_slice-ways.result.now c.as_slice.result.now) q) (rank_of c.args.kept.now.ranks.entries q)) c.retotal_by.ensures.keys
+    (subst (λ (t : Table). IsSound t c.retotal_by.new.ranks.entries c.take_effect.new.uses.entries c.args.kept.now.stamp) c.in_ok-take_effect.ensures.ok (returns-then-is_plain-clause-sound c)))
