@@ -179,7 +179,7 @@ impl Config {
     }
 
     /// Takes a block of an object or a group.
-    pub(crate) fn step_object(self, block: &Block) -> Result<Config, EditRefusal>
+    pub(crate) fn step_object(mut self, block: &Block) -> Result<Config, EditRefusal>
         ensures { Gives result (spec.object_step self block.now) }
     {
         let reaching = self.objects.reaching(self.alloc, block)?;

@@ -2,7 +2,7 @@
 use Rattle.std.proofs.Common.{◌≡◌, ℕ, ◌+◌, ◌*◌, ◌<◌, ◌≤◌, ◌⊎◌, inl, inr, zero, suc, Bool, true, false, cond, ◌||◌, List, [], ◌∷◌, ◌++◌, length, take, drop, get_or, Option, Some, None, Result, Ok, Err, is_some, refl, sym, ap, subst, ◌∙◌, arith}
 use Rattle.std.specs.Str.{bytes_eq}
 use Rattle.std.specs.List.{AllByRecursion}
-use Rattle.std.proofs.lemmas.List.{get_or-map, length-append, length-map, length-take-le}
+use Rattle.std.proofs.lemmas.List.{get_or-map, length-append, length-map, length-take-le, take_all}
 use Rattle.std.proofs.Math.Seq.{take-suc}
 use Rattle.asa_members.specs.declared.stating.Item.{Item}
 use Rattle.asa_objects.specs.Amounts.{Amounts}
@@ -12,34 +12,20 @@ use Rattle.asa_objects.specs.declared.faults.ObjectFault.{ObjectFault}
 use Rattle.asa_objects.specs.declared.faults.ObjectFault.TheVariants as fault
 use Rattle.asa_objects.specs.Spreads.{total, weight_of}
 use Rattle.asa_objects.specs.Tables.{Entry, Table, items_in, items_of, named, same_name, entry_of, group_at}
-use Rattle.asa_objects.specs.Ranks.{IsSound, Part, members, services, amount, amount_in, amount_of, Ranks, Uses, label_of, rank_of, has_name, weigh, own_totals, label_in}
-use Rattle.asa_objects.specs.Climbing.{Rises}
-use Rattle.asa_objects.specs.Reaching.{times_in, names_in, AreTimes, MovesBy, ranks_by, retotaled, RenewsBy, AreApart}
-use Rattle.asa_objects.specs.Totalling.{newer, amount_now, totals_in_rank, summed, AreMoved, IsInner, IsOver, IsRenewed, AreSmall, IsTold, Sums, Renews}
+use Rattle.asa_objects.specs.Ranks.{IsSound, Part, members, services, amount, amount_in, amount_of, Ranks, Uses, rank_of, has_name, weigh, own_totals}
+use Rattle.asa_objects.specs.Climbing.{IsInner, Rises}
+use Rattle.asa_objects.specs.Reaching.{times_in, names_in, AreTimes, MovesBy, ranks_by, RenewsBy, AreApart}
+use Rattle.asa_objects.specs.Totalling.{newer, amount_now, totals_in_rank, summed, AreMoved, IsOver, IsRenewed, AreSmall, IsTold, Sums}
 use Rattle.asa_objects.proofs.LabelLaws.{same-bytes, same-is, same-self}
 use Rattle.asa_objects.proofs.ReachLaws.{any-append}
 use Rattle.asa_objects.proofs.ClimbLaws.{all-has, or-left, or-right, or-cases}
 use Rattle.asa_objects.proofs.UseLaws.{same-sym}
 use Rattle.asa_objects.proofs.TotalLaws.{amount-rank}
 use Rattle.asa_objects.proofs.ToldLaws.{sum-told}
-use Rattle.asa_objects.proofs.WayLaws.{rises-apart, times-out}
+use Rattle.asa_objects.proofs.WayLaws.{apart-at, rises-apart, times-out}
 use Rattle.asa_objects.proofs.RenewLaws.{cut-at, renew-at, overfull-at, not-before}
 
--- the name of a way is among the names of the ways
-has-at : (ways : List Way) (i : ℕ) (d : Way) → i < length ways → has_name (names_in ways) (get_or ways i d).name ≡ true
-has-at [] i d lt = absurd (omega arith)
-has-at (w ∷ ws) zero d lt = or-left _ _ (same-self w.name)
-has-at (w ∷ ws) (suc i) d lt = or-right _ _ (has-at ws i d (omega arith))
-
--- where names stand once, the first is none of the later ones
-apart-at : (w : Way) (ws : List Way) (i : ℕ) (d : Way) → i < length ws → has_name (names_in ws) w.name ≡ false → same_name w.name (get_or ws i d).name ≡ false
-apart-at w ws i d lt none = by (same_name w.name (get_or ws i d).name) refl
-  where
-    by : (b : Bool) → same_name w.name (get_or ws i d).name ≡ b → same_name w.name (get_or ws i d).name ≡ false
-    by false e = e
-    by true e = let there : has_name (names_in ws) w.name ≡ true = ap (has_name (names_in ws)) (same-is w.name (get_or ws i d).name e) ∙ has-at ws i d lt in absurd (cc)
-
--- the name at their end then stands in each as often as its way says
+-- the name at the end of ways, which lead from one name each, stands in each of these as often as its way says
 pub times-at : (ways : List Way) (i : ℕ) (d : Way) → i < length ways → AreApart (names_in ways) → times_in ways (get_or ways i d).name ≡ (get_or ways i d).times
 times-at [] i d lt apart = absurd (omega arith)
 times-at (w ∷ ws) zero d lt apart = ap (λ (b : Bool). cond b w.times (times_in ws w.name)) (same-self w.name)
@@ -89,35 +75,6 @@ absent-by (w ∷ ws) (r ∷ rs) (suc i) d few lt apart =
     ap (λ (b : Bool). cond b (Some r) (rank_of (ranks_by ws rs) (get_or ws i d).name)) (sym (same-bytes (get_or ws i d).name w.name) ∙ same-sym (get_or ws i d).name w.name ∙ apart-at w ws i d (omega arith) apart.0)
     ∙ absent-by ws rs i d (omega arith) (omega arith) apart.1
 
--- only the totals of the new rank count
-only-totals : (label : ℕ) (r : Rank) (old : Option Rank) → retotaled (Some (record { label = label; totals = r.totals })) old ≡ retotaled (Some r) old
-only-totals label r None = refl
-only-totals label r (Some old) = refl
-
--- a name that has a rank gets other totals and keeps its label
-pub retotal-found : (old later : Ranks) (n : List ℕ) (r : Rank) (totals : Amounts) → rank_of old n ≡ Some r
-    → ((q : List ℕ) → rank_of later q ≡ cond (same_name n q) (Some (record { label = r.label; totals = totals })) (rank_of old q))
-    → (q : List ℕ) → rank_of later q ≡ cond (same_name n q) (retotaled (Some (record { label = 0; totals = totals })) (rank_of old q)) (rank_of old q)
-retotal-found old later n r totals found set q = by (same_name n q) refl (set q)
-  where
-    by : (b : Bool) → same_name n q ≡ b → rank_of later q ≡ cond b (Some (record { label = r.label; totals = totals })) (rank_of old q)
-        → rank_of later q ≡ cond (same_name n q) (retotaled (Some (record { label = 0; totals = totals })) (rank_of old q)) (rank_of old q)
-    by true e p = p ∙ sym (ap (λ (b : Bool). cond b (retotaled (Some (record { label = 0; totals = totals })) (rank_of old q)) (rank_of old q)) e
-        ∙ ap (retotaled (Some (record { label = 0; totals = totals }))) (ap (rank_of old) (sym (same-is n q e)) ∙ found))
-    by false e p = p ∙ sym (ap (λ (b : Bool). cond b (retotaled (Some (record { label = 0; totals = totals })) (rank_of old q)) (rank_of old q)) e)
-
--- a name that has none gets none
-pub retotal-none : (old : Ranks) (n : List ℕ) (totals : Amounts) → rank_of old n ≡ None
-    → (q : List ℕ) → rank_of old q ≡ cond (same_name n q) (retotaled (Some (record { label = 0; totals = totals })) (rank_of old q)) (rank_of old q)
-retotal-none old n totals none q = by (same_name n q) refl
-  where
-    by : (b : Bool) → same_name n q ≡ b → rank_of old q ≡ cond (same_name n q) (retotaled (Some (record { label = 0; totals = totals })) (rank_of old q)) (rank_of old q)
-    by true e =
-        let absent : rank_of old q ≡ None = ap (rank_of old) (sym (same-is n q e)) ∙ none in
-        absent ∙ sym (ap (λ (b : Bool). cond b (retotaled (Some (record { label = 0; totals = totals })) (rank_of old q)) (rank_of old q)) e
-        ∙ ap (retotaled (Some (record { label = 0; totals = totals }))) absent)
-    by false e = sym (ap (λ (b : Bool). cond b (retotaled (Some (record { label = 0; totals = totals })) (rank_of old q)) (rank_of old q)) e)
-
 -- a loop that goes over new ranks, at one more of them
 module _ (ways : List Way) (new : List Rank) (apart : AreApart (names_in ways)) (i : ℕ) (w : Way) (r : Rank) (lt : i < length ways) (less : i < length new)
     (way-at : (d : Way) → w ≡ get_or ways i d) (rank-at : (d : Rank) → r ≡ get_or new i d) where
@@ -153,24 +110,12 @@ module _ (ways : List Way) (new : List Rank) (apart : AreApart (names_in ways)) 
       by true e p = p ∙ sym (ap (λ o. newer o (rank_of old q)) (put-more q ∙ ap (λ (b : Bool). cond b (Some r) (rank_of (ranks_by ways (take i new)) q)) e))
       by false e p = p ∙ was q ∙ sym (ap (λ o. newer o (rank_of old q)) (put-more q ∙ ap (λ (b : Bool). cond b (Some r) (rank_of (ranks_by ways (take i new)) q)) e))
 
-  -- the totals of one more are put: its name had no new rank before
-  pub retotal-more : (old mid : Ranks) → ((q : List ℕ) → rank_of mid q ≡ retotaled (rank_of (ranks_by ways (take i new)) q) (rank_of old q))
-      → (later : Ranks) → ((q : List ℕ) → rank_of later q ≡ cond (same_name w.name q) (retotaled (Some (record { label = 0; totals = r.totals })) (rank_of mid q)) (rank_of mid q))
-      → (q : List ℕ) → rank_of later q ≡ retotaled (rank_of (ranks_by ways (take (i + 1) new)) q) (rank_of old q)
-  retotal-more old mid was later set q = by (same_name w.name q) refl (set q)
-    where
-      none : same_name w.name q ≡ true → rank_of (ranks_by ways (take i new)) q ≡ None
-      none e = subst (λ n. rank_of (ranks_by ways (take i new)) n ≡ None) (ap (λ v. v.name) (sym here) ∙ same-is w.name q e) absent
-
-      by : (b : Bool) → same_name w.name q ≡ b → rank_of later q ≡ cond b (retotaled (Some (record { label = 0; totals = r.totals })) (rank_of mid q)) (rank_of mid q)
-          → rank_of later q ≡ retotaled (rank_of (ranks_by ways (take (i + 1) new)) q) (rank_of old q)
-      by true e p = p ∙ ap (retotaled (Some (record { label = 0; totals = r.totals }))) (was q ∙ ap (λ o. retotaled o (rank_of old q)) (none e))
-          ∙ only-totals 0 r (rank_of old q)
-          ∙ sym (ap (λ o. retotaled o (rank_of old q)) (put-more q ∙ ap (λ (b : Bool). cond b (Some r) (rank_of (ranks_by ways (take i new)) q)) e))
-      by false e p = p ∙ was q ∙ sym (ap (λ o. retotaled o (rank_of old q)) (put-more q ∙ ap (λ (b : Bool). cond b (Some r) (rank_of (ranks_by ways (take i new)) q)) e))
-
 pub longer-by : (ranks more : List Rank) (r : Rank) (i : ℕ) → length ranks ≡ i → more ≡ ranks ++ r ∷ [] → length more ≡ i + 1
 longer-by ranks more r i long appended = ap length appended ∙ length-append ranks (r ∷ []) ∙ ap (λ n. n + 1) long
+
+-- as many names as there are ways are all of theirs
+pub names-all : (ways : List Way) (i : ℕ) → length ways ≤ i → take i (names_in ways) ≡ names_in ways
+names-all ways i le = let long : length (names_in ways) ≡ length ways = length-map ways (λ (w : Way). w.name) in take_all i (names_in ways) (omega arith)
 
 -- renewed names have the old totals of the changed name replaced by its new ones, as often as it stands in them
 abbrev pub AreMovedBy : Ranks → List Way → Amounts → Amounts → Ranks → Type 0
@@ -190,15 +135,15 @@ rises-after label (b ∷ bs) n after rises = rises-after label bs n after rises.
 
 module _ (t after : Table) (ranks : Ranks) (uses : Uses) (stamp : ℕ) (name : List ℕ) (ways : List Way) (old told : Amounts) (sound : IsSound t ranks uses stamp)
     (counts : AreTimes t name ways) (former : old ≡ totals_in_rank (rank_of ranks name)) (is : IsTold t after ranks name told (names_in ways)) where
-  -- a name among those before and those from this one on, whose label is less than this one's, is before it
-  is-before : (before : List (List ℕ)) (n : List ℕ) (later : List (List ℕ)) → Rises (label_of ranks) (before ++ n ∷ later) → (c : List ℕ) → has_name (before ++ n ∷ later) c ≡ true
-      → label_of ranks c < label_of ranks n → has_name before c ≡ true
+  -- a name among those before and those from this one on, which is of a lesser order than this one, is before it
+  is-before : (before : List (List ℕ)) (n : List ℕ) (later : List (List ℕ)) → Rises is.order (before ++ n ∷ later) → (c : List ℕ) → has_name (before ++ n ∷ later) c ≡ true
+      → is.order c < is.order n → has_name before c ≡ true
   is-before before n later rises c there less = by (or-cases (has_name before c) (has_name (n ∷ later) c) (sym (any-append _ before (n ∷ later)) ∙ there))
     where
       after-it : (same_name c n ≡ true) ⊎ (has_name later c ≡ true) → has_name before c ≡ true
-      after-it (inl same) = let e : label_of ranks c ≡ label_of ranks n = ap (label_of ranks) (same-is c n same) in absurd (omega arith)
+      after-it (inl same) = let e : is.order c ≡ is.order n = ap is.order (same-is c n same) in absurd (omega arith)
       after-it (inr more) =
-          let greater : label_of ranks n < label_of ranks c = all-has (λ r. label_of ranks n < label_of ranks r) later c (rises-after (label_of ranks) before n later rises) more in
+          let greater : is.order n < is.order c = all-has (λ r. is.order n < is.order r) later c (rises-after is.order before n later rises) more in
           absurd (omega arith)
 
       by : (has_name before c ≡ true) ⊎ (has_name (n ∷ later) c ≡ true) → has_name before c ≡ true
@@ -219,7 +164,7 @@ module _ (t after : Table) (ranks : Ranks) (uses : Uses) (stamp : ℕ) (name : L
         first true c h = absurd (cc)
 
     -- what a member's name counts has moved
-    name-moved : (c : List ℕ) → (has_name (names_in ways) c ≡ true → label_of ranks c < label_of ranks n)
+    name-moved : (c : List ℕ) → (has_name (names_in ways) c ≡ true → is.order c < is.order n)
         → amount_now k new ranks c + times_in ways c * amount k old ≡ amount_of k ranks c + times_in ways c * amount k told
     name-moved c inner = by (has_name (names_in ways) c) refl
       where
@@ -232,7 +177,7 @@ module _ (t after : Table) (ranks : Ranks) (uses : Uses) (stamp : ℕ) (name : L
 
         by : (b : Bool) → has_name (names_in ways) c ≡ b → amount_now k new ranks c + times_in ways c * amount k old ≡ amount_of k ranks c + times_in ways c * amount k told
         by true e =
-            let there : is_some (rank_of new c) ≡ true = covers c ∙ is-before before n later (subst (Rises (label_of ranks)) split is.laid.rising) c (ap (λ ns. has_name ns c) (sym split) ∙ e) (inner e) in
+            let there : is_some (rank_of new c) ≡ true = covers c ∙ is-before before n later (subst (Rises is.order) split is.laid.rising) c (ap (λ ns. has_name ns c) (sym split) ∙ e) (inner e) in
             ap (λ x. x + times_in ways c * amount k old) (same (rank_of new c) there) ∙ moved k c there
         by false e =
             ap (λ x. x + times_in ways c * amount k old) (ap (λ o. amount_in k (newer o (rank_of ranks c))) (not-new c e))
@@ -240,13 +185,13 @@ module _ (t after : Table) (ranks : Ranks) (uses : Uses) (stamp : ℕ) (name : L
             ∙ none (amount_of k ranks c) (amount k old) (amount k told)
             ∙ sym (ap (λ x. amount_of k ranks c + x * amount k told) (times-out ways c e))
 
-    weight-moved : (o : Option (List ℕ)) → IsInner (names_in ways) (label_of ranks) (label_of ranks n) o
+    weight-moved : (o : Option (List ℕ)) → IsInner (names_in ways) is.order (is.order n) o
         → weight_of (amount_now k new ranks) o + weight_of (times_in ways) o * amount k old ≡ weight_of (amount_of k ranks) o + weight_of (times_in ways) o * amount k told
     weight-moved None inner = omega arith
     weight-moved (Some c) inner = name-moved c inner
 
     -- so has the sum over the members
-    sum-moved : (xs : List Item) → AllByRecursion (λ i. IsInner (names_in ways) (label_of ranks) (label_of ranks n) (named i)) xs
+    sum-moved : (xs : List Item) → AllByRecursion (λ i. IsInner (names_in ways) is.order (is.order n) (named i)) xs
         → total (weigh k after (amount_now k new ranks) n) xs + total (λ i. weight_of (times_in ways) (named i)) xs * amount k old
         ≡ total (weigh k after (amount_of k ranks) n) xs + total (λ i. weight_of (times_in ways) (named i)) xs * amount k told
     sum-moved [] inner = omega arith
@@ -305,7 +250,7 @@ module _ (t after : Table) (ranks : Ranks) (uses : Uses) (stamp : ℕ) (name : L
     cut = cut-at (names_in ways) i d.name among ∙ ap (λ m. take i (names_in ways) ++ m ∷ drop (suc i) (names_in ways)) (sym name-at)
 
     stands : times_in ways w.name ≡ w.times
-    stands = subst (λ v. times_in ways v.name ≡ v.times) (sym at) (times-at ways i d lt (rises-apart (label_of ranks) (names_in ways) is.laid.rising))
+    stands = subst (λ v. times_in ways v.name ≡ v.times) (sym at) (times-at ways i d lt (rises-apart is.order (names_in ways) is.laid.rising))
 
     sum-at : (k : Part) → summed k after (ranks_by ways ranked) ranks w.name + w.times * amount k old ≡ amount k (totals_in_rank (rank_of ranks w.name)) + w.times * amount k told
     sum-at k =
@@ -339,7 +284,7 @@ module _ (t after : Table) (ranks : Ranks) (uses : Uses) (stamp : ℕ) (name : L
         → more ≡ ranked ++ record { label = label; totals = totals } ∷ [] → next ≡ label + 1
         → IsRenewed after ranks stamp (take (i + 1) (names_in ways)) (ranks_by ways more) next × AreSmall (ranks_by ways more) × AreMovedBy ranks ways old told (ranks_by ways more)
     more-by next totals more long moves appended step =
-        let renewed = renew-at after ranks stamp (names_in ways) i d.name w.name (ranks_by ways ranked) (ranks_by ways more) label next totals among name-at is.laid (before.0, before.1)
+        let renewed = renew-at after ranks is.order stamp (names_in ways) i d.name w.name (ranks_by ways ranked) (ranks_by ways more) label next totals among name-at is.laid (before.0, before.1)
         (sums-by (Ok totals) moves) put step in
         (renewed.0, renewed.1, moved)
       where
@@ -347,7 +292,7 @@ module _ (t after : Table) (ranks : Ranks) (uses : Uses) (stamp : ℕ) (name : L
         rank = record { label = label; totals = totals }
 
         absent : rank_of (ranks_by ways ranked) w.name ≡ None
-        absent = not-before after ranks stamp (names_in ways) i d.name w.name (ranks_by ways ranked) label among name-at is.laid before.0
+        absent = not-before after ranks is.order stamp (names_in ways) i d.name w.name (ranks_by ways ranked) label among name-at is.laid before.0
 
         here : w ≡ get_or ways (length ranked) d
         here = at ∙ ap (λ j. get_or ways j d) (sym long)
@@ -371,22 +316,4 @@ module _ (t after : Table) (ranks : Ranks) (uses : Uses) (stamp : ℕ) (name : L
 
     -- a name has too many members
     pub fault-by : (f : ObjectFault) → MovesBy w.times old told (totals_in_rank (rank_of ranks w.name)) (Err f) → RenewsBy after ranks stamp ways (Err f)
-    fault-by f h = renews f (overfull-at after ranks stamp (names_in ways) i d.name w.name (ranks_by ways ranked) label f among name-at before.0 (sums-by (Err f) h))
-      where
-        renews : (f : ObjectFault) → Renews after ranks stamp (names_in ways) (Err f) → RenewsBy after ranks stamp ways (Err f)
-        renews fault.TooMany h = h
-        renews fault.NoMemory h = tt
-        renews fault.NameTaken h = h
-        renews (fault.Unknown l c) h = h
-        renews (fault.Bad l c) h = h
-        renews (fault.Unsupported l c) h = h
-        renews (fault.Cycle l) h = h
-        renews (fault.NoSuchMember l) h = h
-        renews (fault.NotBuilt l) h = h
-
--- a rank keeps its label
-pub retotaled-label : (new old : Option Rank) → label_in (retotaled new old) ≡ label_in old
-retotaled-label None None = refl
-retotaled-label None (Some o) = refl
-retotaled-label (Some n) None = refl
-retotaled-label (Some n) (Some o) = refl
+    fault-by f h = overfull-at after ranks stamp (names_in ways) i d.name w.name (ranks_by ways ranked) label f among name-at before.0 (sums-by (Err f) h)

@@ -7,8 +7,8 @@ use Rattle.asa_objects.specs.declared.ranking.Rank.{Rank}
 use Rattle.asa_objects.specs.Spreads.{total, weight_of}
 use Rattle.asa_objects.specs.Tables.{Entry, Table, entry_of, items_in, items_of, named, refers_to, same_name, group_at}
 use Rattle.asa_objects.specs.Ranks.{IsSound, IsThere, IsBelow, Part, members, services, amount, amount_in, amount_of, label_in, Ranks, Uses, label_of, rank_of, users_of, has_name, weigh, own_totals}
-use Rattle.asa_objects.specs.Climbing.{IsAbove}
-use Rattle.asa_objects.specs.Totalling.{newer, amount_now, summed, IsInner, IsLaid, IsRenewed, AreSmall}
+use Rattle.asa_objects.specs.Climbing.{AreReaching, IsInner, IsLaid}
+use Rattle.asa_objects.specs.Totalling.{newer, amount_now, summed, IsRenewed, AreSmall}
 use Rattle.asa_objects.specs.Changing.{Fits}
 use Rattle.asa_objects.proofs.LabelLaws.{same-is, same-self}
 use Rattle.asa_objects.proofs.ReachLaws.{test_of}
@@ -42,7 +42,7 @@ pub record IsChange (t after : Table) (ranks : Ranks) (uses : Uses) (stamp : ℕ
   pub sound : IsSound t ranks uses stamp
   pub was : is_some (entry_of t name) ≡ true
   pub entry : (q : List ℕ) → entry_of after q ≡ cond (same_name name q) (Some made) (entry_of t q)
-  pub above : IsAbove t ranks name names
+  pub above : AreReaching t ranks name names
   pub fits : AllByRecursion (λ i. Fits t name (named i)) made.items
 
 module _ (t after : Table) (ranks : Ranks) (uses : Uses) (stamp : ℕ) (name : List ℕ) (made : Entry) (names : List (List ℕ))
@@ -94,21 +94,23 @@ module _ (t after : Table) (ranks : Ranks) (uses : Uses) (stamp : ℕ) (name : L
   pub items-old : (q : List ℕ) → entry_of after q ≡ entry_of t q → items_of after q ≡ items_of t q
   items-old q e = ap items_in e
 
+  abbrev Inner : List ℕ → Option (List ℕ) → Type 0
+  Inner q = IsInner names change.above.order (change.above.order q)
+
   -- references lead from later names to earlier ones
-  pub laid : IsLaid after ranks names
+  pub laid : IsLaid after change.above.order names
   laid = record {
-    rising = change.above.rising;
+    rising = change.above.laid.rising;
     inner = inner;
   }
     where
-      inner : (q : List ℕ) → has_name names q ≡ true → AllByRecursion (λ i. IsInner names (label_of ranks) (label_of ranks q) (named i)) (items_of after q)
+      inner : (q : List ℕ) → has_name names q ≡ true → AllByRecursion (λ i. Inner q (named i)) (items_of after q)
       inner q h = by (at q)
         where
-          by : At q → AllByRecursion (λ i. IsInner names (label_of ranks) (label_of ranks q) (named i)) (items_of after q)
-          by (inl a) = each-ref (IsInner names (label_of ranks) (label_of ranks q)) tt (items_of after q)
+          by : At q → AllByRecursion (λ i. Inner q (named i)) (items_of after q)
+          by (inl a) = each-ref (Inner q) tt (items_of after q)
               (λ c r isin. absurd (false≢true (sym (new-refers c (ap (list_any (refers_to c)) (sym (items-new q a.1)) ∙ r)).1 ∙ isin)))
-          by (inr a) = each-ref (IsInner names (label_of ranks) (label_of ranks q)) tt (items_of after q)
-              (λ c r _. (old-refers q c (ap (list_any (refers_to c)) (sym (items-old q a.1)) ∙ r)).1)
+          by (inr a) = subst (λ xs. AllByRecursion (λ i. Inner q (named i)) xs) (sym (items-old q a.1)) (change.above.laid.inner q h)
 
   pub there-after : (q : List ℕ) → AllByRecursion (λ i. IsThere after (named i)) (items_of after q)
   there-after q = by (at q)
@@ -121,10 +123,6 @@ module _ (t after : Table) (ranks : Ranks) (uses : Uses) (stamp : ℕ) (name : L
 
   -- what a name that isn't renewed counts stays the same
   module _ (new : Ranks) (k : Part) where
-    weight-old : (o : Option (List ℕ)) → (test : (c : List ℕ) → o ≡ Some c → rank_of new c ≡ None) → weight_of (amount_of k ranks) o ≡ weight_of (amount_now k new ranks) o
-    weight-old None test = refl
-    weight-old (Some c) test = ap (λ r. amount_in k (newer r (rank_of ranks c))) (sym (test c refl))
-
     abbrev Old : Option (List ℕ) → Type 0
     Old None = Unit {0}
     Old (Some c) = rank_of new c ≡ None
@@ -212,7 +210,7 @@ module _ (t after : Table) (ranks : Ranks) (uses : Uses) (stamp : ℕ) (name : L
             olds (inl n) (inl m) o =
                 let e : label_of ranks2 c ≡ label_of new c = ap label_in m.2 in
                 let f : label_of ranks2 q ≡ label_of new q = ap label_in n.2 in
-                let lt = renewed.order c q m.0 n.0 o.1 in omega arith
+                let lt = from-ref (IsInner names (label_of new) (label_of new q)) (items_of after q) c (renewed.inner q n.1) r m.1 in omega arith
             olds (inl n) (inr m) o =
                 let e : label_of ranks2 c ≡ label_of ranks c = ap label_in m.1 in
                 let f : label_of ranks2 q ≡ label_of new q = ap label_in n.2 in

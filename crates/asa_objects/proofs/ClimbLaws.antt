@@ -21,10 +21,10 @@ use Rattle.asa_objects.proofs.ReachLaws.{test_of, closed-has, any-append}
 use Rattle.asa_objects.proofs.RankLaws.{labelled, number, number-falls, number-few, reaches-items}
 
 -- a comparison of numbers says whether they are equal
-eq-true : (a b : ℕ) → (a == b) ≡ true → a ≡ b
+pub eq-true : (a b : ℕ) → (a == b) ≡ true → a ≡ b
 eq-true a b h = grind arith
 
-eq-self : (a : ℕ) → (a == a) ≡ true
+pub eq-self : (a : ℕ) → (a == a) ≡ true
 eq-self a = grind arith
 
 pub or-left : (a b : Bool) → a ≡ true → (a || b) ≡ true
@@ -52,7 +52,7 @@ all-has P (u ∷ us) q all h = by (or-cases (same_name q u) (has_name us q) h) (
     by (inr rest) more = more rest
 
 module _ (label : List ℕ → ℕ) where
-  waits-keeps : (us : List (List ℕ)) (u : List ℕ) (o : Option (List ℕ)) → AllByRecursion (λ v. label v ≡ label u → v ≡ u) us → o ≡ Some u → waits label us (label u) o ≡ Some u
+  pub waits-keeps : (us : List (List ℕ)) (u : List ℕ) (o : Option (List ℕ)) → AllByRecursion (λ v. label v ≡ label u → v ≡ u) us → o ≡ Some u → waits label us (label u) o ≡ Some u
   waits-keeps [] u o alike h = h
   waits-keeps (v ∷ us) u o alike h = waits-keeps us u (if label v == label u then Some v else o) alike.1 (by (label v == label u) (λ e. alike.0 (eq-true (label v) (label u) e)))
     where
@@ -60,7 +60,7 @@ module _ (label : List ℕ → ℕ) where
       by true same = ap Some (same refl)
       by false same = h
 
-  waits-in : (us : List (List ℕ)) (u : List ℕ) (o : Option (List ℕ)) → AllByRecursion (λ v. label v ≡ label u → v ≡ u) us → has_name us u ≡ true → waits label us (label u) o ≡ Some u
+  pub waits-in : (us : List (List ℕ)) (u : List ℕ) (o : Option (List ℕ)) → AllByRecursion (λ v. label v ≡ label u → v ≡ u) us → has_name us u ≡ true → waits label us (label u) o ≡ Some u
   waits-in [] u o alike h = absurd (cc)
   waits-in (v ∷ us) u o alike h =
       by (or-cases (same_name u v) (has_name us u) h) (λ r. waits-in us u (if label v == label u then Some v else o) alike.1 r)
@@ -73,7 +73,7 @@ module _ (label : List ℕ → ℕ) where
           waits-keeps us u _ alike.1 (ap (λ (b : Bool). if b then Some v else o) test ∙ ap Some (sym e))
       by (inr rest) more = more rest
 
-  waits-from : (us : List (List ℕ)) (n : ℕ) (o : Option (List ℕ)) (q : List ℕ) → waits label us n o ≡ Some q → (o ≡ Some q) ⊎ ((has_name us q ≡ true) × (label q ≡ n))
+  pub waits-from : (us : List (List ℕ)) (n : ℕ) (o : Option (List ℕ)) (q : List ℕ) → waits label us n o ≡ Some q → (o ≡ Some q) ⊎ ((has_name us q ≡ true) × (label q ≡ n))
   waits-from [] n o q h = inl h
   waits-from (v ∷ us) n o q h = by (waits-from us n (if label v == n then Some v else o) q h)
     where
@@ -134,10 +134,10 @@ pub record Climb (t : Table) (ranks : Ranks) (uses : Uses) (name : List ℕ) (fo
 
 module _ (t : Table) (ranks : Ranks) (uses : Uses) (stamp : ℕ) (name : List ℕ) (sound : IsSound t ranks uses stamp) where
   -- a user of a name is there, and reaches what the name reaches
-  user-refers : (q u : List ℕ) → has_name (users_of uses q) u ≡ true → list_any (refers_to q) (items_of t u) ≡ true
+  pub user-refers : (q u : List ℕ) → has_name (users_of uses q) u ≡ true → list_any (refers_to q) (items_of t u) ≡ true
   user-refers q u h = sym (sound.used q u) ∙ h
 
-  user-there : (q u : List ℕ) → has_name (users_of uses q) u ≡ true → is_some (rank_of ranks u) ≡ true
+  pub user-there : (q u : List ℕ) → has_name (users_of uses q) u ≡ true → is_some (rank_of ranks u) ≡ true
   user-there q u h = sound.ranked u ∙ has-items t u (refers_to q) (user-refers q u h)
 
   label : List ℕ → ℕ
@@ -207,7 +207,7 @@ pub all-weaker : {X : Type 0} (P Q : X → Type 0) → ((x : X) → P x → Q x)
 all-weaker P Q f [] all = tt
 all-weaker P Q f (x ∷ xs) all = (f x all.0, all-weaker P Q f xs all.1)
 
-rises-push : (label : List ℕ → ℕ) (xs : List (List ℕ)) (x : List ℕ) → Rises label xs → AllByRecursion (λ q. label q < label x) xs → Rises label (xs ++ x ∷ [])
+pub rises-push : (label : List ℕ → ℕ) (xs : List (List ℕ)) (x : List ℕ) → Rises label xs → AllByRecursion (λ q. label q < label x) xs → Rises label (xs ++ x ∷ [])
 rises-push label [] x rises all = (tt, tt)
 rises-push label (y ∷ ys) x rises all = (all-push (λ r. label y < label r) ys x rises.0 all.0, rises-push label ys x rises.1 all.1)
 
@@ -295,6 +295,15 @@ module _ (t : Table) (ranks : Ranks) (uses : Uses) (stamp : ℕ) (name : List �
               last (inl same) = inr (put (label_of ranks u) ∙ waits-in (label_of ranks) (users_of uses n) u _ (alike u there) (subst (λ p. has_name (users_of uses p) u ≡ true) (same-is q n same) user))
               last (inr false-is) = absurd (cc)
 
+-- what is no more is at least
+pub at-least : (l k : ℕ) → is_gt (nat_cmp l k) ≡ false → l ≤ k
+at-least l k h = by (nat_cmp l k) (nat_ranks l k) h
+  where
+    by : (r : Ordering) → MatchOrdering r (l < k) (l ≡ k) (k < l) → is_gt r ≡ false → l ≤ k
+    by cmp.Less lt h = omega arith
+    by cmp.Equal e h = omega arith
+    by cmp.Greater gt h = absurd (cc)
+
 -- the same of maps, as their calls tell it
 pub start-from : (t : Table) (ranks : Ranks) (uses : Uses) (stamp : ℕ) (name : List ℕ) → IsSound t ranks uses stamp → is_some (rank_of ranks name) ≡ true
     → (m n : BTreeMap ℕ (List ℕ)) → m.entries ≡ [] → (k : ℕ) (v : List ℕ) → k ≡ label_of ranks name → v ≡ name → Updates nat_cmp m n k (Some v)
@@ -320,14 +329,6 @@ end-from t ranks uses stamp name sound found m floor climb empty =
     nil : (es : List (ℕ × List ℕ)) → (0 < length es → ⊥) → es ≡ []
     nil [] h = refl
     nil (e ∷ es) h = absurd (h (omega arith))
-
-at-least : (l k : ℕ) → is_gt (nat_cmp l k) ≡ false → l ≤ k
-at-least l k h = by (nat_cmp l k) (nat_ranks l k) h
-  where
-    by : (r : Ordering) → MatchOrdering r (l < k) (l ≡ k) (k < l) → is_gt r ≡ false → l ≤ k
-    by cmp.Less lt h = omega arith
-    by cmp.Equal e h = omega arith
-    by cmp.Greater gt h = absurd (cc)
 
 pub step-from : (t : Table) (ranks : Ranks) (uses : Uses) (stamp : ℕ) (name : List ℕ) → IsSound t ranks uses stamp → is_some (rank_of ranks name) ≡ true
     → (found : List (List ℕ)) (m n u : BTreeMap ℕ (List ℕ)) (floor l : ℕ) (q : List ℕ)

@@ -27,7 +27,15 @@ pub mod EffectLaws
 pub mod MoveLaws
 pub mod OrderLaws
 pub mod PassLaws
+pub mod SumLaws
 pub mod ByLaws
-pub mod StayLaws
 pub mod WayLaws
-pub mod SettleLaws
+pub mod WaitLaws
+pub mod StayLaws
+pub mod FollowLaws
+pub mod CloseLaws
+pub mod JoinLaws
+pub mod SteppingLaws
+pub mod AloneLaws
+pub mod FrameLaws
+pub mod GraphLaws

@@ -3,17 +3,14 @@ use Rattle.std.proofs.Common.{◌≡◌, ℕ, ◌+◌, Bool, true, false, cond, 
 use Rattle.std.specs.List.{AllByRecursion, list_any}
 use Rattle.asa_members.specs.declared.stating.Item.{Item}
 use Rattle.asa_objects.specs.Amounts.{Amounts}
-use Rattle.asa_objects.specs.declared.reaching.Way.{Way}
 use Rattle.asa_objects.specs.declared.faults.ObjectFault.{ObjectFault}
-use Rattle.asa_objects.specs.declared.faults.ObjectFault.TheVariants as fault
 use Rattle.asa_objects.specs.Spreads.{total, weight_of}
 use Rattle.asa_objects.specs.Tables.{Entry, Table, entry_of, group_at, group_of, items_in, items_of, named, refers_to, same_name, with_entry}
 use Rattle.asa_objects.specs.Defining.{has_item, same_item}
 use Rattle.asa_objects.specs.Marks.{AreDistinct, AreFormer, changed, changed_entry, standing}
 use Rattle.asa_objects.specs.Ranks.{IsSound, amount, amount_of, Ranks, Uses, rank_of, users_of, has_name, own_totals, both_totals, refs_in}
-use Rattle.asa_objects.specs.Climbing.{IsAbove}
-use Rattle.asa_objects.specs.Totalling.{newer, totals_in_rank, AreSmall, AreSums, IsRenewed, IsTold, Renews}
-use Rattle.asa_objects.specs.Reaching.{RenewsBy, names_in}
+use Rattle.asa_objects.specs.Climbing.{AreReaching}
+use Rattle.asa_objects.specs.Totalling.{newer, totals_in_rank, AreSmall, AreSums, IsRenewed, IsTold, Overfills}
 use Rattle.asa_objects.specs.Using.{AreUsed, AreUnused, unused_in}
 use Rattle.asa_objects.specs.Changing.{Fits, Replaces, changed_at, changed_in, freed_by}
 use Rattle.asa_objects.specs.Weighing.{weights}
@@ -94,7 +91,7 @@ bool-moved false false true false h i = refl
 bool-moved false false false g h i = refl
 
 module _ (t : Table) (ranks : Ranks) (uses : Uses) (stamp : ℕ) (name : List ℕ) (gone added : List Item) (names : List (List ℕ)) (sound : IsSound t ranks uses stamp)
-    (above : IsAbove t ranks name names) (fits : AllByRecursion (λ i. Fits t name (named i)) (changed (items_of t name) gone added)) where
+    (above : AreReaching t ranks name names) (fits : AllByRecursion (λ i. Fits t name (named i)) (changed (items_of t name) gone added)) where
   module _ (e : Entry) (found : entry_of t name ≡ Some e) where
     pub move-change : IsChange t (with_entry t name (changed_entry e gone added)) ranks uses stamp name (changed_entry e gone added) names
     move-change = record {
@@ -173,9 +170,9 @@ module _ (t : Table) (ranks : Ranks) (uses : Uses) (stamp : ℕ) (name : List �
         (move-sums there.0 there.1 (subst (λ (o : Option Entry). AreDistinct (items_in o)) there.1 apart) (subst (λ (o : Option Entry). AreFormer (items_in o) gone) there.1 former) told
         (subst (λ (o : Option Entry). both_totals told (weights ranks (group_at o) gone) ≡ both_totals (totals_in_rank (rank_of ranks name)) (weights ranks (group_at o) added)) there.1 is)))
 
-    pub move-refused : (f : ObjectFault) → Renews (changed_at t name gone added) ranks stamp names (Err f) → Replaces t t (changed_at t name gone added) (Err f)
+    pub move-refused : (f : ObjectFault) → Overfills (changed_at t name gone added) ranks stamp names f → Replaces t t (changed_at t name gone added) (Err f)
     move-refused f h = subst (λ x. Replaces t t x (Err f)) same
-        (change-refused t _ ranks uses stamp name (changed_entry there.0 gone added) names f (move-change there.0 there.1) (subst (λ x. Renews x ranks stamp names (Err f)) (sym same) h))
+        (change-refused t _ ranks uses stamp name (changed_entry there.0 gone added) names f (move-change there.0 there.1) (subst (λ x. Overfills x ranks stamp names f) (sym same) h))
 
     pub move-sound : (new : Ranks) (label : ℕ) → IsRenewed (changed_at t name gone added) ranks stamp names new label → AreSmall new → (ranks2 : Ranks) → ((q : List ℕ) → rank_of ranks2 q ≡ newer (rank_of new q) (rank_of ranks q))
         → (mid uses2 : Uses) → AreUsed uses mid name (unused_in uses (refs_in added) name) → AreUnused mid uses2 name (freed_by (items_of t name) gone added)
@@ -187,15 +184,3 @@ module _ (t : Table) (ranks : Ranks) (uses : Uses) (stamp : ℕ) (name : List �
         by g = change-sound t _ ranks uses stamp name (changed_entry there.0 gone added) names (move-change there.0 there.1) new ranks2 label g small now uses2
             (used-moved there.0 there.1 mid uses2 (used-all uses mid name (refs_in added) used)
             (subst (λ (o : Option Entry). AreUnused mid uses2 name (freed_by (items_in o) gone added)) there.1 unused))
-
--- what ways tell of a refusal, the names that they lead from tell
-pub by-refused : (t : Table) (ranks : Ranks) (stamp : ℕ) (ways : List Way) (f : ObjectFault) → RenewsBy t ranks stamp ways (Err f) → Renews t ranks stamp (names_in ways) (Err f)
-by-refused t ranks stamp ways fault.TooMany h = h
-by-refused t ranks stamp ways fault.NoMemory h = tt
-by-refused t ranks stamp ways fault.NameTaken h = h
-by-refused t ranks stamp ways (fault.Unknown l c) h = h
-by-refused t ranks stamp ways (fault.Bad l c) h = h
-by-refused t ranks stamp ways (fault.Unsupported l c) h = h
-by-refused t ranks stamp ways (fault.Cycle l) h = h
-by-refused t ranks stamp ways (fault.NoSuchMember l) h = h
-by-refused t ranks stamp ways (fault.NotBuilt l) h = h

@@ -10,8 +10,8 @@ use Rattle.asa_objects.specs.Amounts.{Amounts}
 use Rattle.asa_objects.specs.declared.ranking.Rank.{Rank}
 use Rattle.asa_objects.specs.Tables.{Entry, Table, entry_of, items_of, named, refers_to, same_name, members_of, services_of_name}
 use Rattle.asa_objects.specs.Ranks.{IsBelow, Part, members, prefixes, services, amount, amount_in, Ranks, Uses, label_of, rank_of, has_name}
-use Rattle.asa_objects.specs.Climbing.{Rises}
-use Rattle.asa_objects.specs.Totalling.{newer, amount_now, summed, AreSums, IsInner, IsLaid, IsRenewed, IsOver, IsOverfull}
+use Rattle.asa_objects.specs.Climbing.{IsInner, IsLaid, Rises}
+use Rattle.asa_objects.specs.Totalling.{newer, amount_now, summed, AreSums, IsRenewed, IsOver, IsOverfull}
 use Rattle.asa_objects.specs.Defining.{is_small, are_small}
 use Rattle.asa_objects.proofs.SpreadLaws.{Among}
 use Rattle.asa_objects.proofs.LabelLaws.{same-is, same-self, same-bytes}
@@ -145,11 +145,11 @@ module _ (t after : Table) (ranks : Ranks) (uses : Uses) (stamp : ℕ) (name : L
             ((old-refers t after ranks uses stamp name made names change q c (ap (list_any (refers_to c)) (sym (items-old t after ranks uses stamp name made names change q a.1)) ∙ r)).2 h) out
     settled q (inr done) = each-ref (Among Done) tt (items_of after q) (λ c r. by c r (either (has_name names c)))
       where
-        inside : (c : List ℕ) → list_any (refers_to c) (items_of after q) ≡ true → has_name names c ≡ true → label_of ranks c < label_of ranks q
-        inside c r h = from-ref (IsInner names (label_of ranks) (label_of ranks q)) (items_of after q) c ((laid t after ranks uses stamp name made names change).inner q (first-in q done)) r h
+        inside : (c : List ℕ) → list_any (refers_to c) (items_of after q) ≡ true → has_name names c ≡ true → change.above.order c < change.above.order q
+        inside c r h = from-ref (IsInner names change.above.order (change.above.order q)) (items_of after q) c ((laid t after ranks uses stamp name made names change).inner q (first-in q done)) r h
 
-        later : (c : List ℕ) → has_name rest c ≡ true → label_of ranks q < label_of ranks c
-        later c h = rises-parts (label_of ranks) first rest (subst (Rises (label_of ranks)) split change.above.rising) q c done h
+        later : (c : List ℕ) → has_name rest c ≡ true → change.above.order q < change.above.order c
+        later c h = rises-parts change.above.order first rest (subst (Rises change.above.order) split change.above.laid.rising) q c done h
 
         by : (c : List ℕ) → list_any (refers_to c) (items_of after q) ≡ true → (has_name names c ≡ true) ⊎ (has_name names c ≡ false) → Done c
         by c r (inr h) = inl h
@@ -204,7 +204,7 @@ over-false t after ranks uses stamp name made names change o =
     put q = ap (λ (b : Bool). cond b (Some (record { label = o.label; totals = totals })) (rank_of o.new q)) (sym (same-bytes q o.name) ∙ same-sym q o.name)
 
     renewed : IsRenewed after ranks stamp (o.before ++ o.name ∷ []) new (o.label + 1)
-    renewed = renew-step after ranks stamp o.before o.name o.after (subst (IsLaid after ranks) o.split (laid t after ranks uses stamp name made names change)) o.new new o.label totals o.renewed sums put
+    renewed = renew-step after ranks change.above.order stamp o.before o.name o.after (subst (IsLaid after change.above.order) o.split (laid t after ranks uses stamp name made names change)) o.new new o.label totals o.renewed sums put
 
     append-one : (xs : List (List ℕ)) (n : List ℕ) (ys : List (List ℕ)) → xs ++ n ∷ ys ≡ (xs ++ n ∷ []) ++ ys
     append-one [] n ys = refl

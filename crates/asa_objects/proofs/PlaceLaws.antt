@@ -1,18 +1,20 @@
 -- Ranks at the places of the table of ranks.
-use Rattle.std.proofs.Common.{◌≡◌, ℕ, ◌<◌, Bool, true, false, cond, not, nat_lt, List, [], ◌∷◌, ◌++◌, length, get_or, slice_get, position, Option, Some, None, IfSome, is_some, refl, sym, ap, ◌∙◌}
+use Rattle.std.proofs.Common.{◌≡◌, ℕ, ◌<◌, ◌≤◌, Bool, true, false, cond, not, nat_lt, List, [], ◌∷◌, ◌++◌, length, get_or, slice_get, position, Option, Some, None, IfSome, is_some, refl, sym, ap, ◌∙◌, arith}
 use Rattle.std.specs.List.{position_or_len}
 use Rattle.std.specs.Map.{keys_of, values_of, lookup}
 use Rattle.std.specs.Option.{option_map}
 use Rattle.std.specs.Str.{bytes_eq}
 use Rattle.std.proofs.lemmas.Cmp.{nat_list_eq_equiv}
-use Rattle.std.proofs.lemmas.Bool.{false≢true, ltb-true}
+use Rattle.std.proofs.lemmas.Bool.{false≢true, ltb-true, ltb-false}
 use Rattle.std.proofs.lemmas.List.Sums.{passes_at_first}
-use Rattle.std.proofs.lemmas.Option.{slice_get-map, slice_get-get_or}
+use Rattle.std.proofs.lemmas.Map.Keys.{apart_from_distinct}
+use Rattle.std.proofs.lemmas.Map.Entries.{hash_map_get_place}
+use Rattle.std.proofs.lemmas.Option.{slice_get-map, slice_get-get_or, slice_get_within, get_or_from_slice_get}
 use Rattle.std.proofs.lemmas.Slice.Eq.{bytes_eq-Decides}
 use Rattle.indexmap.specs.IndexMap.{IndexMap, IsUnique, insert_entry, with_value_at}
 use Rattle.indexmap.proofs.CallerLemmas.{insert_entry-new, updates-with_value_at}
 use Rattle.asa_objects.specs.Tables.{same_name}
-use Rattle.asa_objects.proofs.LabelLaws.{changed-at}
+use Rattle.asa_objects.proofs.LabelLaws.{changed-at, same-bytes, same-self}
 
 module _ {V : Type 0} where
   -- at the place of a name stands an entry of that name
@@ -65,6 +67,35 @@ place-found name ks i h = by (nat_lt at (length ks)) (ltb-true at (length ks)) h
 pub place-is : (name : List ℕ) (ks : List (List ℕ)) (o : Option ℕ) → o ≡ position (bytes_eq name) ks → IfSome o (λ i. slice_get ks i ≡ Some name)
 place-is name ks None h = tt
 place-is name ks (Some i) h = place-found name ks i (sym h)
+
+-- no name stands at two places
+pub once-at : {V S : Type 0} (m : IndexMap (List ℕ) V S) → IsUnique bytes_eq m → (p q : ℕ) (name : List ℕ) → slice_get (keys_of m.entries) p ≡ Some name → slice_get (keys_of m.entries) q ≡ Some name
+    → p ≡ q
+once-at m unique p q name at there = by (nat_lt p q) (nat_lt q p) (ltb-true p q) (ltb-false p q) (ltb-true q p) (ltb-false q p)
+  where
+    ks : List (List ℕ)
+    ks = keys_of m.entries
+
+    twice : (i j : ℕ) → slice_get ks i ≡ Some name → slice_get ks j ≡ Some name → i < j → ⊥
+    twice i j first second lt = false≢true (
+        sym (apart_from_distinct bytes_eq ks i j name unique lt (slice_get_within ks j name second))
+        ∙ ap (λ a. bytes_eq a (get_or ks j name)) (get_or_from_slice_get ks i name name first)
+        ∙ ap (bytes_eq name) (get_or_from_slice_get ks j name name second)
+        ∙ sym (same-bytes name name) ∙ same-self name
+        )
+
+    by : (a b : Bool) → (a ≡ true → p < q) → (a ≡ false → q ≤ p) → (b ≡ true → q < p) → (b ≡ false → p ≤ q) → p ≡ q
+    by true b f g h i = absurd (twice p q at there (f refl))
+    by false true f g h i = absurd (twice q p there at (h refl))
+    by false false f g h i = let less = g refl in let more = i refl in omega arith
+
+-- so its place is the one that is found
+pub only-at : {V S : Type 0} (m : IndexMap (List ℕ) V S) → IsUnique bytes_eq m → (name : List ℕ) (o : Option ℕ) → o ≡ position (bytes_eq name) (keys_of m.entries)
+    → is_some o ≡ is_some (lookup (bytes_eq name) m.entries) → (p : ℕ) → slice_get (keys_of m.entries) p ≡ Some name → o ≡ Some p
+only-at m unique name None is found p at =
+    let entry = entry-at m.entries p name at in
+    absurd (false≢true (found ∙ ap is_some (hash_map_get_place nat_list_eq_equiv m p name entry.0 unique entry.1)))
+only-at m unique name (Some i) is found p at = ap Some (once-at m unique i p name (place-found name (keys_of m.entries) i (sym is)) at)
 
 -- another value at the place of a name
 pub changed-place : {V S : Type 0} (m : IndexMap (List ℕ) V S) (i : ℕ) (w : V) → IsUnique bytes_eq m → (name : List ℕ) → slice_get (keys_of m.entries) i ≡ Some name

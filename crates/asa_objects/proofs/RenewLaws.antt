@@ -12,8 +12,8 @@ use Rattle.asa_objects.specs.declared.ranking.Rank.{Rank}
 use Rattle.asa_objects.specs.Spreads.{total, weight_of}
 use Rattle.asa_objects.specs.Tables.{Table, items_of, named, same_name, entry_of, group_at}
 use Rattle.asa_objects.specs.Ranks.{Part, members, services, amount, amount_in, amount_of, label_in, Ranks, label_of, rank_of, has_name, weigh, own_totals}
-use Rattle.asa_objects.specs.Climbing.{Rises}
-use Rattle.asa_objects.specs.Totalling.{newer, amount_now, summed, AreSums, IsInner, IsLaid, IsRenewed, AreSmall, Sums, Renews}
+use Rattle.asa_objects.specs.Climbing.{IsInner, IsLaid, Rises}
+use Rattle.asa_objects.specs.Totalling.{newer, amount_now, summed, AreSums, IsRenewed, AreSmall, Overfills, Sums}
 use Rattle.asa_objects.proofs.LabelLaws.{same-is, same-self}
 use Rattle.asa_objects.proofs.ReachLaws.{any-append}
 use Rattle.asa_objects.proofs.ClimbLaws.{all-has, or-left, or-right}
@@ -48,7 +48,7 @@ renew-start t ranks stamp new empty = record {
   covers = λ q. none q;
   later = omega arith;
   fresh = λ q h. let no = none q in absurd (cc);
-  order = λ p q h i lt. let no = none p in absurd (cc);
+  inner = λ q h. absurd (cc);
   unlike = λ p q h i e. let no = none p in absurd (cc);
   sums = λ k q h. let no = none q in absurd (cc);
 }
@@ -56,7 +56,7 @@ renew-start t ranks stamp new empty = record {
     none : (q : List ℕ) → is_some (rank_of new q) ≡ false
     none q = ap (λ (r : Ranks). is_some (rank_of r q)) empty
 
-module _ (t : Table) (ranks : Ranks) (stamp : ℕ) (before : List (List ℕ)) (n : List ℕ) (after : List (List ℕ)) (laid : IsLaid t ranks (before ++ n ∷ after))
+module _ (t : Table) (ranks : Ranks) (order : List ℕ → ℕ) (stamp : ℕ) (before : List (List ℕ)) (n : List ℕ) (after : List (List ℕ)) (laid : IsLaid t order (before ++ n ∷ after))
     (new made : Ranks) (label : ℕ) (totals : Amounts) (renewed : IsRenewed t ranks stamp before new label) (sums : AreSums t new ranks n totals)
     (put : (q : List ℕ) → rank_of made q ≡ cond (same_name n q) (Some (record { label = label; totals = totals })) (rank_of new q)) where
   -- a name is the new one, or was renewed before
@@ -70,8 +70,8 @@ module _ (t : Table) (ranks : Ranks) (stamp : ℕ) (before : List (List ℕ)) (n
       by true same e = inl (same-is n q same, e)
       by false apart e = inr (apart, e)
 
-  less : (q : List ℕ) → has_name before q ≡ true → label_of ranks q < label_of ranks n
-  less q h = all-has (λ p. label_of ranks p < label_of ranks n) before q (rises-before (label_of ranks) before n after laid.rising) h
+  less : (q : List ℕ) → has_name before q ≡ true → order q < order n
+  less q h = all-has (λ p. order p < order n) before q (rises-before order before n after laid.rising) h
 
   among : (q : List ℕ) → has_name before q ≡ true → has_name (before ++ n ∷ after) q ≡ true
   among q h = any-append _ before (n ∷ after) ∙ or-left _ _ h
@@ -80,7 +80,7 @@ module _ (t : Table) (ranks : Ranks) (stamp : ℕ) (before : List (List ℕ)) (n
   itself = any-append _ before (n ∷ after) ∙ or-right _ _ (or-left _ _ (same-self n))
 
   -- no renewed name refers to the new one, nor does that to itself
-  apart-of : (k : ℕ) → k ≤ label_of ranks n → (o : Option (List ℕ)) → IsInner (before ++ n ∷ after) (label_of ranks) k o → Apart n o
+  apart-of : (k : ℕ) → k ≤ order n → (o : Option (List ℕ)) → IsInner (before ++ n ∷ after) order k o → Apart n o
   apart-of k le None inner = tt
   apart-of k le (Some c) inner = by (same_name n c) refl
     where
@@ -89,18 +89,18 @@ module _ (t : Table) (ranks : Ranks) (stamp : ℕ) (before : List (List ℕ)) (n
       by true same =
           let e : n ≡ c = same-is n c same in
           let lt = inner (subst (λ p. has_name (before ++ n ∷ after) p ≡ true) e itself) in
-          let at : label_of ranks n ≡ label_of ranks c = ap (label_of ranks) e in
+          let at : order n ≡ order c = ap order e in
           absurd (omega arith)
 
-  aparts : (k : ℕ) → k ≤ label_of ranks n → (xs : List Item) → AllByRecursion (λ i. IsInner (before ++ n ∷ after) (label_of ranks) k (named i)) xs → AllByRecursion (λ i. Apart n (named i)) xs
+  aparts : (k : ℕ) → k ≤ order n → (xs : List Item) → AllByRecursion (λ i. IsInner (before ++ n ∷ after) order k (named i)) xs → AllByRecursion (λ i. Apart n (named i)) xs
   aparts k le [] inner = tt
   aparts k le (x ∷ xs) inner = (apart-of k le (named x) inner.0, aparts k le xs inner.1)
 
   stays : (k : Part) (c : List ℕ) → same_name n c ≡ false → amount_now k new ranks c ≡ amount_now k made ranks c
   stays k c apart = ap (λ o. amount_in k (newer o (rank_of ranks c))) (sym (put c ∙ ap (λ (b : Bool). cond b (Some (record { label = label; totals = totals })) (rank_of new c)) apart))
 
-  same-sum : (k : Part) (q : List ℕ) → has_name (before ++ n ∷ after) q ≡ true → label_of ranks q ≤ label_of ranks n → summed k t new ranks q ≡ summed k t made ranks q
-  same-sum k q h le = weigh-apart k t q n (amount_now k new ranks) (amount_now k made ranks) (stays k) (items_of t q) (aparts (label_of ranks q) le (items_of t q) (laid.inner q h))
+  same-sum : (k : Part) (q : List ℕ) → has_name (before ++ n ∷ after) q ≡ true → order q ≤ order n → summed k t new ranks q ≡ summed k t made ranks q
+  same-sum k q h le = weigh-apart k t q n (amount_now k new ranks) (amount_now k made ranks) (stays k) (items_of t q) (aparts (order q) le (items_of t q) (laid.inner q h))
 
   label-new : (q : List ℕ) → rank_of made q ≡ Some (record { label = label; totals = totals }) → label_of made q ≡ label
   label-new q e = ap label_in e
@@ -119,7 +119,7 @@ module _ (t : Table) (ranks : Ranks) (stamp : ℕ) (before : List (List ℕ)) (n
     covers = covers;
     later = let l = renewed.later in omega arith;
     fresh = fresh;
-    order = order;
+    inner = inner;
     unlike = unlike;
     sums = sums-made;
   }
@@ -146,14 +146,32 @@ module _ (t : Table) (ranks : Ranks) (stamp : ℕ) (before : List (List ℕ)) (n
           by (inl c) = let e = label-new q c.1 in let l = renewed.later in (omega arith, omega arith)
           by (inr c) = let e = label-old q c.1 in let f = renewed.fresh q (was q c.1 h) in (omega (arith, f.0), omega (arith, f.1))
 
-      order : (p q : List ℕ) → is_some (rank_of made p) ≡ true → is_some (rank_of made q) ≡ true → label_of ranks p < label_of ranks q → label_of made p < label_of made q
-      order p q h i lt = by (case p) (case q)
+      -- a member that refers to a name that is new has a greater label than that
+      inner-all : (P : Option (List ℕ) → Type 0) (l : ℕ) → ((c : List ℕ) → P (Some c) → has_name before c ≡ true → label_of new c < l) → (xs : List Item)
+          → AllByRecursion (λ i. Apart n (named i)) xs → AllByRecursion (λ i. P (named i)) xs → AllByRecursion (λ i. IsInner (before ++ n ∷ []) (label_of made) l (named i)) xs
+      inner-all P l less-of [] apart all = tt
+      inner-all P l less-of (x ∷ xs) apart all = (of (named x) apart.0 all.0, inner-all P l less-of xs apart.1 all.1)
         where
-          by : Case p → Case q → label_of made p < label_of made q
-          by (inl c) (inl d) = let e : p ≡ q = sym c.0 ∙ d.0 in let f : label_of ranks p ≡ label_of ranks q = ap (label_of ranks) e in absurd (omega arith)
-          by (inl c) (inr d) = let e : label_of ranks n ≡ label_of ranks p = ap (label_of ranks) c.0 in let l = less q (in-before q (was q d.1 i)) in absurd (omega arith)
-          by (inr c) (inl d) = let e = label-old p c.1 in let f = label-new q d.1 in let g = renewed.fresh p (was p c.1 h) in omega (arith, g.1)
-          by (inr c) (inr d) = let e = label-old p c.1 in let f = label-old q d.1 in let g = renewed.order p q (was p c.1 h) (was q d.1 i) lt in omega arith
+          of : (o : Option (List ℕ)) → Apart n o → P o → IsInner (before ++ n ∷ []) (label_of made) l o
+          of None apart p = tt
+          of (Some c) apart p = by (case c)
+            where
+              by : Case c → has_name (before ++ n ∷ []) c ≡ true → label_of made c < l
+              by (inl d) h = absurd (false≢true (sym apart ∙ ap (same_name n) (sym d.0) ∙ same-self n))
+              by (inr d) h = let e = label-old c d.1 in let lt = less-of c p (in-before c (was c d.1 (covers c ∙ h))) in omega arith
+
+      inner : (q : List ℕ) → has_name (before ++ n ∷ []) q ≡ true → AllByRecursion (λ i. IsInner (before ++ n ∷ []) (label_of made) (label_of made q) (named i)) (items_of t q)
+      inner q h = by (case q)
+        where
+          by : Case q → AllByRecursion (λ i. IsInner (before ++ n ∷ []) (label_of made) (label_of made q) (named i)) (items_of t q)
+          by (inl c) = subst (λ p. AllByRecursion (λ i. IsInner (before ++ n ∷ []) (label_of made) (label_of made q) (named i)) (items_of t p)) c.0
+              (inner-all (Apart n) (label_of made q) (λ m _ b. let e = label-new q c.1 in let f = renewed.fresh m (renewed.covers m ∙ b) in omega (arith, f.1)) (items_of t n)
+              (aparts (order n) (omega arith) (items_of t n) (laid.inner n itself)) (aparts (order n) (omega arith) (items_of t n) (laid.inner n itself)))
+          by (inr c) =
+              let b = in-before q (was q c.1 (covers q ∙ h)) in
+              let l = less q b in
+              inner-all (IsInner before (label_of new) (label_of new q)) (label_of made q) (λ m lt d. let e = label-old q c.1 in let f = lt d in omega arith) (items_of t q)
+              (aparts (order q) (omega arith) (items_of t q) (laid.inner q (among q b))) (renewed.inner q b)
 
       unlike : (p q : List ℕ) → is_some (rank_of made p) ≡ true → is_some (rank_of made q) ≡ true → label_of made p ≡ label_of made q → p ≡ q
       unlike p q h i same = by (case p) (case q)
@@ -188,40 +206,40 @@ pub cut-at : (xs : List (List ℕ)) (i : ℕ) (d : List ℕ) → i < length xs �
 cut-at xs i d lt = sym (take-append-drop i xs) ∙ ap (λ r. take i xs ++ r) (drop-cons xs i d lt)
 
 -- a name isn't new before its turn
-pub not-before : (t : Table) (ranks : Ranks) (stamp : ℕ) (names : List (List ℕ)) (i : ℕ) (d n : List ℕ) (new : Ranks) (label : ℕ) → i < length names → n ≡ get_or names i d
-    → IsLaid t ranks names → IsRenewed t ranks stamp (take i names) new label → rank_of new n ≡ None
-not-before t ranks stamp names i d n new label lt is laid renewed = by (rank_of new n) (renewed.covers n)
+pub not-before : (t : Table) (ranks : Ranks) (order : List ℕ → ℕ) (stamp : ℕ) (names : List (List ℕ)) (i : ℕ) (d n : List ℕ) (new : Ranks) (label : ℕ) → i < length names → n ≡ get_or names i d
+    → IsLaid t order names → IsRenewed t ranks stamp (take i names) new label → rank_of new n ≡ None
+not-before t ranks order stamp names i d n new label lt is laid renewed = by (rank_of new n) (renewed.covers n)
   where
-    rises : Rises (label_of ranks) (take i names ++ n ∷ drop (suc i) names)
-    rises = subst (Rises (label_of ranks)) (cut-at names i d lt ∙ ap (λ m. take i names ++ m ∷ drop (suc i) names) (sym is)) laid.rising
+    rises : Rises order (take i names ++ n ∷ drop (suc i) names)
+    rises = subst (Rises order) (cut-at names i d lt ∙ ap (λ m. take i names ++ m ∷ drop (suc i) names) (sym is)) laid.rising
 
     by : (o : Option Rank) → is_some o ≡ has_name (take i names) n → o ≡ None
     by None h = refl
     by (Some r) h =
-        let less : label_of ranks n < label_of ranks n =
-        all-has (λ p. label_of ranks p < label_of ranks n) (take i names) n (rises-before (label_of ranks) (take i names) n (drop (suc i) names) rises) (sym h) in
+        let less : order n < order n =
+        all-has (λ p. order p < order n) (take i names) n (rises-before order (take i names) n (drop (suc i) names) rises) (sym h) in
         absurd (omega arith)
 
 -- the same, as a loop over the names goes
-pub renew-at : (t : Table) (ranks : Ranks) (stamp : ℕ) (names : List (List ℕ)) (i : ℕ) (d n : List ℕ) (new made : Ranks) (label next : ℕ) (totals : Amounts)
-    → i < length names → n ≡ get_or names i d → IsLaid t ranks names → IsRenewed t ranks stamp (take i names) new label × AreSmall new
+pub renew-at : (t : Table) (ranks : Ranks) (order : List ℕ → ℕ) (stamp : ℕ) (names : List (List ℕ)) (i : ℕ) (d n : List ℕ) (new made : Ranks) (label next : ℕ) (totals : Amounts)
+    → i < length names → n ≡ get_or names i d → IsLaid t order names → IsRenewed t ranks stamp (take i names) new label × AreSmall new
     → (AreSums t new ranks n totals × (totals.members ≤ 65536) × (totals.services ≤ 65536))
     → ((q : List ℕ) → rank_of made q ≡ cond (same_name n q) (Some (record { label = label; totals = totals })) (rank_of new q)) → next ≡ label + 1
     → IsRenewed t ranks stamp (take (i + 1) names) made next × AreSmall made
-renew-at t ranks stamp names i d n new made label next totals lt is laid renewed sums put step =
+renew-at t ranks order stamp names i d n new made label next totals lt is laid renewed sums put step =
     let cut : names ≡ take i names ++ n ∷ drop (suc i) names = cut-at names i d lt ∙ ap (λ m. take i names ++ m ∷ drop (suc i) names) (sym is) in
     let more : take (i + 1) names ≡ take i names ++ n ∷ [] = ap (λ j. take j names) (add-one i) ∙ take-suc names i d lt ∙ ap (λ m. take i names ++ m ∷ []) (sym is) in (
       subst (λ l. IsRenewed t ranks stamp (take (i + 1) names) made l) (sym step)
           (subst (λ qs. IsRenewed t ranks stamp qs made (label + 1)) (sym more)
-          (renew-step t ranks stamp (take i names) n (drop (suc i) names) (subst (IsLaid t ranks) cut laid) new made label totals renewed.0 sums.0 put)),
-      small-step t ranks stamp (take i names) n (drop (suc i) names) (subst (IsLaid t ranks) cut laid) new made label totals renewed.0 sums.0 put (sums.1, sums.2) renewed.1,
+          (renew-step t ranks order stamp (take i names) n (drop (suc i) names) (subst (IsLaid t order) cut laid) new made label totals renewed.0 sums.0 put)),
+      small-step t ranks order stamp (take i names) n (drop (suc i) names) (subst (IsLaid t order) cut laid) new made label totals renewed.0 sums.0 put (sums.1, sums.2) renewed.1,
     )
   where
     add-one : (j : ℕ) → j + 1 ≡ suc j
     add-one j = omega arith
 
 pub overfull-at : (t : Table) (ranks : Ranks) (stamp : ℕ) (names : List (List ℕ)) (i : ℕ) (d n : List ℕ) (new : Ranks) (label : ℕ) (f : ObjectFault)
-    → i < length names → n ≡ get_or names i d → IsRenewed t ranks stamp (take i names) new label → Sums t new ranks n (Err f) → Renews t ranks stamp names (Err f)
+    → i < length names → n ≡ get_or names i d → IsRenewed t ranks stamp (take i names) new label → Sums t new ranks n (Err f) → Overfills t ranks stamp names f
 overfull-at t ranks stamp names i d n new label fault.TooMany lt is renewed over = record {
   before = take i names;
   name = n;

@@ -1,8 +1,7 @@
--- What is kept of the names that reach a name stays right where the members of that name or of other names change.
-use Rattle.std.proofs.Common.{◌≡◌, ℕ, ◌+◌, ◌<◌, ◌⊎◌, inl, inr, zero, suc, Bool, true, false, cond, ◌||◌, List, [], ◌∷◌, ◌++◌, length, get_or, slice_get, Option, Some, None, is_some, refl, sym, ap, subst, ◌∙◌, arith}
+-- What is kept of the names that reach a name stays right where these refer to each other as before, in the order that they have.
+use Rattle.std.proofs.Common.{◌≡◌, ℕ, ◌+◌, ◌<◌, zero, suc, Bool, true, false, cond, ◌||◌, List, [], ◌∷◌, ◌++◌, length, get_or, slice_get, Option, Some, None, is_some, refl, sym, ap, subst, ◌∙◌, arith}
 use Rattle.std.specs.List.{AllByRecursion, list_any}
 use Rattle.std.specs.Map.{keys_of}
-use Rattle.std.specs.Option.{option_to_list}
 use Rattle.std.proofs.lemmas.Bool.{false≢true}
 use Rattle.asa_members.specs.declared.stating.Item.{Item}
 use Rattle.asa_objects.specs.declared.ranking.Rank.{Rank}
@@ -10,26 +9,22 @@ use Rattle.asa_objects.specs.declared.reaching.Way.{Way}
 use Rattle.asa_objects.specs.declared.reaching.Reach.{Reach}
 use Rattle.asa_objects.specs.Spreads.{total, weight_of}
 use Rattle.asa_objects.specs.Tables.{Entry, Table, entry_of, items_in, items_of, named, reaches, refers_to, same_name}
-use Rattle.asa_objects.specs.Marks.{AreDistinct, AreFormer, changed, changed_entry, standing}
-use Rattle.asa_objects.specs.Ranks.{IsSound, Ranks, Uses, refs_in, label_in, label_of, rank_of, has_name, no_totals}
-use Rattle.asa_objects.specs.Climbing.{IsAbove, Rises}
-use Rattle.asa_objects.specs.Totalling.{newer, IsRenewed}
-use Rattle.asa_objects.specs.Changing.{Fits, changed_at, changed_in}
-use Rattle.asa_objects.specs.Reaching.{times_in, names_in, leads_into, AreTimes, IsApart, IsPlaced, IsReach, IsReachKept}
+use Rattle.asa_objects.specs.Marks.{changed, changed_entry}
+use Rattle.asa_objects.specs.Ranks.{IsSound, Ranks, Uses, label_of, rank_of, has_name, no_totals}
+use Rattle.asa_objects.specs.Climbing.{IsInner}
+use Rattle.asa_objects.specs.Changing.{changed_at, changed_in}
+use Rattle.asa_objects.specs.Reaching.{times_in, names_in, AreTimes, IsPlaced, IsReach, IsReachKept}
 use Rattle.asa_objects.proofs.LabelLaws.{same-is, same-self}
-use Rattle.asa_objects.proofs.ReachLaws.{test_of, any-append, closed-has}
+use Rattle.asa_objects.proofs.ReachLaws.{test_of, closed-has}
 use Rattle.asa_objects.proofs.RankLaws.{labelled, number, number-falls, number-few}
-use Rattle.asa_objects.proofs.ClimbLaws.{all-at, all-has, each-has, or-left, or-right, or-cases, passes-refers, reaches-user}
+use Rattle.asa_objects.proofs.ClimbLaws.{all-at, all-has, each-has, or-left, or-right, passes-refers, reaches-user}
 use Rattle.asa_objects.proofs.UseLaws.{same-sym}
-use Rattle.asa_objects.proofs.MoveLaws.{gone-refers, stands-or-gone, stood}
+use Rattle.asa_objects.proofs.ChangeLaws.{each-ref, from-ref}
 use Rattle.asa_objects.proofs.PutLaws.{entry-put}
-use Rattle.asa_objects.proofs.ReplaceLaws.{refs-any}
-use Rattle.asa_objects.proofs.SpreadLaws.{total-append}
-use Rattle.asa_objects.proofs.StandingLaws.{total-standing}
 use Rattle.asa_objects.proofs.WayLaws.{times-out}
 
 -- members that refer to none of these names count nothing
-none-times : (ways : List Way) (xs : List Item) → ((c : List ℕ) → list_any (refers_to c) xs ≡ true → has_name (names_in ways) c ≡ false)
+pub none-times : (ways : List Way) (xs : List Item) → ((c : List ℕ) → list_any (refers_to c) xs ≡ true → has_name (names_in ways) c ≡ false)
     → total (λ i. weight_of (times_in ways) (named i)) xs ≡ 0
 none-times ways [] out = refl
 none-times ways (x ∷ xs) out =
@@ -46,7 +41,7 @@ get-before (z ∷ zs) y zero x h = h
 get-before (z ∷ zs) y (suc i) x h = get-before zs y i x h
 
 -- where no name passes, none of them does
-none-has : (p : List ℕ → Bool) (names : List (List ℕ)) → list_any p names ≡ false → (q : List ℕ) → has_name names q ≡ true → p q ≡ false
+pub none-has : (p : List ℕ → Bool) (names : List (List ℕ)) → list_any p names ≡ false → (q : List ℕ) → has_name names q ≡ true → p q ≡ false
 none-has p names none q h = all-has (λ n. p n ≡ false) names q (each names none) h
   where
     left : (a b : Bool) → (a || b) ≡ false → a ≡ false
@@ -60,26 +55,6 @@ none-has p names none q h = all-has (λ n. p n ≡ false) names q (each names no
     each : (ns : List (List ℕ)) → list_any p ns ≡ false → AllByRecursion (λ n. p n ≡ false) ns
     each [] e = tt
     each (n ∷ ns) e = (left _ _ e, each ns (right _ _ e))
-
--- a name that a member refers to isn't among names into which none leads
-none-leads : (names : List (List ℕ)) (xs : List Item) → list_any (λ i. leads_into names (named i)) xs ≡ false → (c : List ℕ) → list_any (refers_to c) xs ≡ true → has_name names c ≡ false
-none-leads names xs none c h = by (has_name names c) refl
-  where
-    into : (b : Bool) → has_name names c ≡ true → (o : Option (List ℕ)) → test_of (same_name c) o ≡ true → leads_into names o ≡ true
-    into b e None r = absurd (cc)
-    into b e (Some d) r = ap (has_name names) (sym (same-is c d r)) ∙ e
-
-    any : (ys : List Item) → has_name names c ≡ true → list_any (refers_to c) ys ≡ true → list_any (λ i. leads_into names (named i)) ys ≡ true
-    any [] e r = absurd (cc)
-    any (y ∷ ys) e r = at (or-cases (refers_to c y) (list_any (refers_to c) ys) r) (λ h. any ys e h)
-      where
-        at : (refers_to c y ≡ true) ⊎ (list_any (refers_to c) ys ≡ true) → (list_any (refers_to c) ys ≡ true → list_any (λ i. leads_into names (named i)) ys ≡ true) → (leads_into names (named y) || list_any (λ i. leads_into names (named i)) ys) ≡ true
-        at (inl here) more = or-left _ _ (into true e (named y) here)
-        at (inr rest) more = or-right _ _ (more rest)
-
-    by : (b : Bool) → has_name names c ≡ b → has_name names c ≡ false
-    by false e = e
-    by true e = absurd (false≢true (sym none ∙ any xs e h))
 
 -- ways tell the places of ranks whose names stand where they stood
 pub placed-same : (old new : Ranks) (ways : List Way) → keys_of new ≡ keys_of old → AllByRecursion (IsPlaced old) ways → AllByRecursion (IsPlaced new) ways
@@ -98,16 +73,7 @@ placed-more old new key (w ∷ ws) more placed = (
 pub placed-at : (old new : Ranks) (ways : List Way) (i : ℕ) (w : Way) → i < length ways → ((d : Way) → w ≡ get_or ways i d) → keys_of new ≡ keys_of old → AllByRecursion (IsPlaced old) ways → IsPlaced new w
 placed-at old new ways i w lt at same placed = subst (IsPlaced new) (sym (at w)) (all-at (IsPlaced new) ways i w lt (placed-same old new ways same placed))
 
--- labels that keep the order of some names still rise along them
-rises-kept : (old new : List ℕ → ℕ) (names : List (List ℕ)) → ((p q : List ℕ) → has_name names p ≡ true → has_name names q ≡ true → old p < old q → new p < new q)
-    → Rises old names → Rises new names
-rises-kept old new [] keeps rises = tt
-rises-kept old new (p ∷ ps) keeps rises = (
-  each-has (λ q. new p < new q) ps (λ q h. keeps p q (or-left _ _ (same-self p)) (or-right _ _ h) (all-has (λ s. old p < old s) ps q rises.0 h)),
-  rises-kept old new ps (λ a b i j. keeps a b (or-right _ _ i) (or-right _ _ j)) rises.1,
-)
-
-both-ways : (a b : Bool) → (a ≡ true → b ≡ true) → (b ≡ true → a ≡ true) → a ≡ b
+pub both-ways : (a b : Bool) → (a ≡ true → b ≡ true) → (b ≡ true → a ≡ true) → a ≡ b
 both-ways true b f g = sym (f refl)
 both-ways false true f g = g refl
 both-ways false false f g = refl
@@ -119,7 +85,7 @@ module _ (t after : Table) (ranks ranks2 : Ranks) (uses uses2 : Uses) (stamp sta
   abbrev pub In : List ℕ → Bool
   In q = has_name (names_in r.ways.items) q
 
-  own-in : In r.name ≡ true
+  pub own-in : In r.name ≡ true
   own-in = was.above.whole r.name ∙ or-left _ _ (same-self r.name)
 
   -- a name outside is none of those inside
@@ -141,14 +107,19 @@ module _ (t after : Table) (ranks ranks2 : Ranks) (uses uses2 : Uses) (stamp sta
       by false e = e
       by true e = absurd (false≢true (sym out ∙ was.above.whole q ∙ reaches-user t ranks uses stamp r.name sound c q refers (sym (was.above.whole c) ∙ e)))
 
-  -- a name refers to the same names, and what it refers to counts the same
+  -- a name refers to the same names among these, and what it refers to counts the same
   abbrev pub IsAlike : List ℕ → Type 0
-  IsAlike q = ((c : List ℕ) → list_any (refers_to c) (items_of after q) ≡ list_any (refers_to c) (items_of t q))
+  IsAlike q = ((c : List ℕ) → In c ≡ true → list_any (refers_to c) (items_of after q) ≡ list_any (refers_to c) (items_of t q))
       × (total (λ i. weight_of (times_in r.ways.items) (named i)) (items_of after q) ≡ total (λ i. weight_of (times_in r.ways.items) (named i)) (items_of t q))
 
   -- where it has the same members
   pub alike-same : (q : List ℕ) → items_of after q ≡ items_of t q → IsAlike q
-  alike-same q same = (λ c. ap (list_any (refers_to c)) same, ap (λ xs. total (λ i. weight_of (times_in r.ways.items) (named i)) xs) same)
+  alike-same q same = (λ c _. ap (list_any (refers_to c)) same, ap (λ xs. total (λ i. weight_of (times_in r.ways.items) (named i)) xs) same)
+
+  -- so what it refers to comes earlier
+  pub inner-alike : (q : List ℕ) → In q ≡ true → IsAlike q → AllByRecursion (λ i. IsInner (names_in r.ways.items) was.above.order (was.above.order q) (named i)) (items_of after q)
+  inner-alike q h alike = each-ref (IsInner (names_in r.ways.items) was.above.order (was.above.order q)) tt (items_of after q)
+      (λ c refers inside. from-ref (IsInner (names_in r.ways.items) was.above.order (was.above.order q)) (items_of t q) c (was.above.laid.inner q h) (sym (alike.0 c inside) ∙ refers) inside)
 
   module _ (same : (q : List ℕ) → In q ≡ true → same_name r.name q ≡ false → IsAlike q)
       (outside : (q c : List ℕ) → In q ≡ false → list_any (refers_to c) (items_of after q) ≡ true → In c ≡ false) where
@@ -181,7 +152,7 @@ module _ (t after : Table) (ranks ranks2 : Ranks) (uses uses2 : Uses) (stamp sta
             by false e =
                 let c = passes-refers (λ c. reaches after c r.name) (items_of t p) any in
                 let inside : In p ≡ true = was.above.whole p ∙ reaches-user t ranks uses stamp r.name sound c.0 p c.2 (sym (was.above.whole c.0) ∙ has-after c.0 c.1) in
-                reaches-user after ranks2 uses2 stamp2 r.name sound2 c.0 p ((same p inside e).0 c.0 ∙ c.2) c.1
+                reaches-user after ranks2 uses2 stamp2 r.name sound2 c.0 p ((same p inside e).0 c.0 (has-after c.0 c.1) ∙ c.2) c.1
 
     -- the same names reach it
     pub whole-after : (q : List ℕ) → In q ≡ reaches after q r.name
@@ -197,32 +168,37 @@ module _ (t after : Table) (ranks ranks2 : Ranks) (uses uses2 : Uses) (stamp sta
         by false true e f old = old ∙ sym (same q f e).1
         by false false e f old = times-out r.ways.items q f ∙ sym (none-times r.ways.items (items_of after q) (λ c h. outside q c f h))
 
-    -- what is kept of them stays right, where their labels keep their order
-    pub reach-stays : ((q : List ℕ) → In q ≡ true → is_some (rank_of ranks2 q) ≡ true)
-        → ((p q : List ℕ) → In p ≡ true → In q ≡ true → label_of ranks p < label_of ranks q → label_of ranks2 p < label_of ranks2 q) → AllByRecursion (IsPlaced ranks2) r.ways.items → IsReach after ranks2 r
-    reach-stays ranked keeps placed = record {
+    -- what is kept of them stays right, in the order that they have
+    pub reach-stays : AllByRecursion (λ i. IsInner (names_in r.ways.items) was.above.order (was.above.order r.name) (named i)) (items_of after r.name)
+        → ((q : List ℕ) → In q ≡ true → is_some (rank_of ranks2 q) ≡ true) → AllByRecursion (IsPlaced ranks2) r.ways.items → IsReach after ranks2 r
+    reach-stays own ranked placed = record {
       above = record {
         there = each-has (λ q. is_some (rank_of ranks2 q) ≡ true) (names_in r.ways.items) ranked;
-        rising = rises-kept (label_of ranks) (label_of ranks2) (names_in r.ways.items) keeps was.above.rising;
+        order = was.above.order;
+        laid = record {
+          rising = was.above.laid.rising;
+          inner = inner;
+        };
         whole = whole-after;
       };
       times = times-after;
       placed = placed;
       names = was.names;
-      set = was.set;
+      counts = was.counts;
     }
-
-    -- so where their ranks are the same
-    pub reach-same : ((q : List ℕ) → In q ≡ true → rank_of ranks2 q ≡ rank_of ranks q) → AllByRecursion (IsPlaced ranks2) r.ways.items → IsReach after ranks2 r
-    reach-same same-rank = reach-stays
-        (λ q h. ap is_some (same-rank q h) ∙ all-has (λ p. is_some (rank_of ranks p) ≡ true) (names_in r.ways.items) q was.above.there h)
-        (λ p q h i lt. let e : label_of ranks2 p ≡ label_of ranks p = ap label_in (same-rank p h) in
-        let f : label_of ranks2 q ≡ label_of ranks q = ap label_in (same-rank q i) in omega arith)
+      where
+        inner : (q : List ℕ) → In q ≡ true → AllByRecursion (λ i. IsInner (names_in r.ways.items) was.above.order (was.above.order q) (named i)) (items_of after q)
+        inner q h = by (same_name r.name q) refl
+          where
+            by : (b : Bool) → same_name r.name q ≡ b → AllByRecursion (λ i. IsInner (names_in r.ways.items) was.above.order (was.above.order q) (named i)) (items_of after q)
+            by true e = subst (λ p. AllByRecursion (λ i. IsInner (names_in r.ways.items) was.above.order (was.above.order p) (named i)) (items_of after p)) (same-is r.name q e) own
+            by false e = inner-alike q h (same q h e)
 
   -- a name outside gets other members, which refer to no name inside
   pub reach-beside : (m : List ℕ) → In m ≡ false → ((q : List ℕ) → same_name m q ≡ false → items_of after q ≡ items_of t q)
-      → ((c : List ℕ) → list_any (refers_to c) (items_of after m) ≡ true → In c ≡ false) → ((q : List ℕ) → In q ≡ true → rank_of ranks2 q ≡ rank_of ranks q) → AllByRecursion (IsPlaced ranks2) r.ways.items → IsReach after ranks2 r
-  reach-beside m out same refers = reach-same (λ q h _. alike-same q (same q (apart-in m q out h))) outside
+      → ((c : List ℕ) → list_any (refers_to c) (items_of after m) ≡ true → In c ≡ false) → ((q : List ℕ) → In q ≡ true → is_some (rank_of ranks2 q) ≡ true) → AllByRecursion (IsPlaced ranks2) r.ways.items → IsReach after ranks2 r
+  reach-beside m out same refers ranked placed = reach-stays (λ q h _. alike-same q (same q (apart-in m q out h))) outside
+      (inner-alike r.name own-in (alike-same r.name (same r.name (apart-in m r.name out own-in)))) ranked placed
     where
       outside : (q c : List ℕ) → In q ≡ false → list_any (refers_to c) (items_of after q) ≡ true → In c ≡ false
       outside q c h is = by (same_name m q) refl
@@ -237,7 +213,7 @@ module _ (t after : Table) (ranks ranks2 : Ranks) (uses uses2 : Uses) (stamp sta
   reach-empty m value rank out empty entry ranked = reach-beside m out
       (λ q apart. ap items_in (entry q ∙ ap (λ (b : Bool). cond b value (entry_of t q)) apart))
       (λ c h. absurd (false≢true (sym (ap (list_any (refers_to c)) none) ∙ h)))
-      (λ q h. ranked q ∙ ap (λ (b : Bool). cond b rank (rank_of ranks q)) (apart-in m q out h))
+      (λ q h. ap is_some (ranked q ∙ ap (λ (b : Bool). cond b rank (rank_of ranks q)) (apart-in m q out h)) ∙ all-has (λ p. is_some (rank_of ranks p) ≡ true) (names_in r.ways.items) q was.above.there h)
     where
       none : items_of after m ≡ []
       none = ap items_in (entry m ∙ ap (λ (b : Bool). cond b value (entry_of t m)) (same-self m)) ∙ empty
@@ -266,40 +242,7 @@ changed-there t name gone added there = by (entry_of t name) there
     by None h = absurd (cc)
     by (Some e) h = ap is_some (entry-put t name (changed_entry e gone added) name) ∙ ap (λ (b : Bool). is_some (cond b (Some (changed_entry e gone added)) (entry_of t name))) (same-self name)
 
--- a rank that is new
-newer-some : (new old : Option Rank) → is_some new ≡ true → newer new old ≡ new
-newer-some None old h = absurd (cc)
-newer-some (Some x) old h = refl
-
--- what is kept of the names that reach a name stays right where that name gets other members and they get new ranks
-pub reach-after : (t : Table) (ranks : Ranks) (uses : Uses) (stamp : ℕ) (r : Reach) (gone added : List Item) → IsSound t ranks uses stamp → IsReach t ranks r
-    → is_some (entry_of t r.name) ≡ true → AllByRecursion (λ i. Fits t r.name (named i)) (changed (items_of t r.name) gone added)
-    → (new : Ranks) (label : ℕ) → IsRenewed (changed_at t r.name gone added) ranks stamp (names_in r.ways.items) new label
-    → (ranks2 : Ranks) → ((q : List ℕ) → rank_of ranks2 q ≡ newer (rank_of new q) (rank_of ranks q))
-    → (uses2 : Uses) (stamp2 : ℕ) → IsSound (changed_at t r.name gone added) ranks2 uses2 stamp2 → AllByRecursion (IsPlaced ranks2) r.ways.items → IsReach (changed_at t r.name gone added) ranks2 r
-reach-after t ranks uses stamp r gone added sound was there fits new label renewed ranks2 now uses2 stamp2 sound2 placed =
-    reach-stays t (changed_at t r.name gone added) ranks ranks2 uses uses2 stamp stamp2 r sound sound2 was
-    (λ q _ apart. alike-same t (changed_at t r.name gone added) ranks ranks2 uses uses2 stamp stamp2 r sound sound2 was q (same q apart))
-    (λ q c out refers. out-refers t (changed_at t r.name gone added) ranks ranks2 uses uses2 stamp stamp2 r sound sound2 was q c out
-    (ap (list_any (refers_to c)) (sym (same q (apart-own t (changed_at t r.name gone added) ranks ranks2 uses uses2 stamp stamp2 r sound sound2 was q out))) ∙ refers))
-    (λ q h. ap is_some (fresh q h) ∙ covered q h) keeps placed
-  where
-    same : (q : List ℕ) → same_name r.name q ≡ false → items_of (changed_at t r.name gone added) q ≡ items_of t q
-    same q apart = ap items_in (changed-other t r.name gone added q apart)
-
-    covered : (q : List ℕ) → has_name (names_in r.ways.items) q ≡ true → is_some (rank_of new q) ≡ true
-    covered q h = renewed.covers q ∙ h
-
-    fresh : (q : List ℕ) → has_name (names_in r.ways.items) q ≡ true → rank_of ranks2 q ≡ rank_of new q
-    fresh q h = now q ∙ newer-some (rank_of new q) (rank_of ranks q) (covered q h)
-
-    keeps : (p q : List ℕ) → has_name (names_in r.ways.items) p ≡ true → has_name (names_in r.ways.items) q ≡ true → label_of ranks p < label_of ranks q → label_of ranks2 p < label_of ranks2 q
-    keeps p q h i lt =
-        let e : label_of ranks2 p ≡ label_of new p = ap label_in (fresh p h) in
-        let f : label_of ranks2 q ≡ label_of new q = ap label_in (fresh q i) in
-        let less = renewed.order p q (covered p h) (covered q i) lt in omega arith
-
--- the same where a name that isn't in the table comes in without members
+-- what is kept of the names that reach a name stays right where a name that isn't in the table comes in without members
 pub reach-opened : (t after : Table) (ranks ranks2 : Ranks) (uses : Uses) (stamp : ℕ) (name : List ℕ) (made : Entry) (r : Reach) → IsSound t ranks uses stamp → IsReach t ranks r
     → entry_of t name ≡ None → made.items ≡ []
     → ((q : List ℕ) → entry_of after q ≡ cond (same_name name q) (Some made) (entry_of t q))
@@ -315,32 +258,7 @@ reach-opened t after ranks ranks2 uses stamp name made r sound was absent empty 
         by false e = e
         by true e = absurd (false≢true (sym (sound.ranked name ∙ ap is_some absent) ∙ all-has (λ q. is_some (rank_of ranks q) ≡ true) (names_in r.ways.items) name was.above.there e))
 
--- the same where another name gets other members, of which none refers to a name that reaches that one
-pub reach-apart : (t : Table) (ranks ranks2 : Ranks) (uses uses2 : Uses) (stamp stamp2 : ℕ) (r : Reach) (m : List ℕ) (gone added : List Item) → IsSound t ranks uses stamp → IsReach t ranks r
-    → is_some (entry_of t m) ≡ true → has_name (names_in r.ways.items) m ≡ false
-    → ((c : List ℕ) → list_any (refers_to c) (changed (items_of t m) gone added) ≡ true → has_name (names_in r.ways.items) c ≡ false)
-    → ((q : List ℕ) → has_name (names_in r.ways.items) q ≡ true → rank_of ranks2 q ≡ rank_of ranks q)
-    → IsSound (changed_at t m gone added) ranks2 uses2 stamp2 → AllByRecursion (IsPlaced ranks2) r.ways.items → IsReach (changed_at t m gone added) ranks2 r
-reach-apart t ranks ranks2 uses uses2 stamp stamp2 r m gone added sound was there out refers ranked sound2 placed =
-    reach-beside t (changed_at t m gone added) ranks ranks2 uses uses2 stamp stamp2 r sound sound2 was m out
-    (λ q apart. ap items_in (changed-other t m gone added q apart))
-    (λ c h. refers c (ap (list_any (refers_to c)) (sym (changed-own t m gone added there)) ∙ h)) ranked placed
-
--- it is enough to ask that of the members that come
-pub reach-apart-added : (t : Table) (ranks ranks2 : Ranks) (uses uses2 : Uses) (stamp stamp2 : ℕ) (r : Reach) (m : List ℕ) (gone added : List Item) → IsSound t ranks uses stamp → IsReach t ranks r
-    → is_some (entry_of t m) ≡ true → has_name (names_in r.ways.items) m ≡ false
-    → ((c : List ℕ) → list_any (refers_to c) added ≡ true → has_name (names_in r.ways.items) c ≡ false)
-    → ((q : List ℕ) → has_name (names_in r.ways.items) q ≡ true → rank_of ranks2 q ≡ rank_of ranks q)
-    → IsSound (changed_at t m gone added) ranks2 uses2 stamp2 → AllByRecursion (IsPlaced ranks2) r.ways.items → IsReach (changed_at t m gone added) ranks2 r
-reach-apart-added t ranks ranks2 uses uses2 stamp stamp2 r m gone added sound was there out refers ranked sound2 placed =
-    reach-apart t ranks ranks2 uses uses2 stamp stamp2 r m gone added sound was there out
-    (λ c h. by c (or-cases _ _ (sym (any-append (refers_to c) (standing (items_of t m) gone) added) ∙ h))) ranked sound2 placed
-  where
-    by : (c : List ℕ) → (list_any (refers_to c) (standing (items_of t m) gone) ≡ true) ⊎ (list_any (refers_to c) added ≡ true) → has_name (names_in r.ways.items) c ≡ false
-    by c (inl old) = out-refers t (changed_at t m gone added) ranks ranks2 uses uses2 stamp stamp2 r sound sound2 was m c out (stood (refers_to c) (items_of t m) gone old)
-    by c (inr new) = refers c new
-
--- a name comes in without members: nothing that is kept, or what is kept stays right
+-- where a name comes in without members all that is kept stays right
 pub kept-opened : (t after : Table) (ranks ranks2 : Ranks) (uses : Uses) (stamp : ℕ) (name : List ℕ) (made : Entry) (kept : List Reach) → IsSound t ranks uses stamp → IsReachKept t ranks kept
     → entry_of t name ≡ None → made.items ≡ []
     → ((q : List ℕ) → entry_of after q ≡ cond (same_name name q) (Some made) (entry_of t q))
@@ -350,101 +268,4 @@ kept-opened t after ranks ranks2 uses stamp name made [] sound was absent empty 
 kept-opened t after ranks ranks2 uses stamp name made (r ∷ rs) sound was absent empty entry ranked sound2 key more = (
   reach-opened t after ranks ranks2 uses stamp name made r sound was.0 absent empty entry ranked sound2 (placed-more ranks ranks2 key r.ways.items more was.0.placed),
   kept-opened t after ranks ranks2 uses stamp name made rs sound was.1 absent empty entry ranked sound2 key more,
-)
-
--- a name that only itself reaches gets other members
-pub kept-apart : (t : Table) (ranks ranks2 : Ranks) (uses uses2 : Uses) (stamp stamp2 : ℕ) (kept : List Reach) (m : List ℕ) (gone added : List Item) (names : List (List ℕ)) → IsSound t ranks uses stamp → IsReachKept t ranks kept
-    → is_some (entry_of t m) ≡ true → IsAbove t ranks m names → IsApart names added kept
-    → ((q : List ℕ) → has_name names q ≡ false → rank_of ranks2 q ≡ rank_of ranks q) → keys_of ranks2 ≡ keys_of ranks
-    → IsSound (changed_at t m gone added) ranks2 uses2 stamp2 → IsReachKept (changed_at t m gone added) ranks2 kept
-kept-apart t ranks ranks2 uses uses2 stamp stamp2 [] m gone added names sound was there above out others same sound2 = tt
-kept-apart t ranks ranks2 uses uses2 stamp stamp2 (r ∷ rs) m gone added names sound was there above out others same sound2 = (
-  reach-apart-added t ranks ranks2 uses uses2 stamp stamp2 r m gone added sound was.0 there
-      (apart m (above.whole m ∙ or-left _ _ (same-self m)))
-      (λ c h. sym (was.0.set c) ∙ none-leads r.set.keys added out.0.1 c h)
-      (λ q h. others q (not-both q h)) sound2 (placed-same ranks ranks2 r.ways.items same was.0.placed),
-  kept-apart t ranks ranks2 uses uses2 stamp stamp2 rs m gone added names sound was.1 there above out.1 others same sound2,
-)
-  where
-    apart : (q : List ℕ) → has_name names q ≡ true → has_name (names_in r.ways.items) q ≡ false
-    apart q h = sym (was.0.set q) ∙ none-has (has_name r.set.keys) names out.0.0 q h
-
-    not-both : (q : List ℕ) → has_name (names_in r.ways.items) q ≡ true → has_name names q ≡ false
-    not-both q h = by (has_name names q) refl
-      where
-        by : (b : Bool) → has_name names q ≡ b → has_name names q ≡ false
-        by false e = e
-        by true e = absurd (false≢true (sym (apart q e) ∙ h))
-
--- members without references neither count nor refer
-no-weight : (w : List ℕ → ℕ) (xs : List Item) → refs_in xs ≡ [] → total (λ i. weight_of w (named i)) xs ≡ 0
-no-weight w [] none = refl
-no-weight w (x ∷ xs) none = by (named x) none (λ more. no-weight w xs more)
-  where
-    by : (o : Option (List ℕ)) → option_to_list o ++ refs_in xs ≡ [] → (refs_in xs ≡ [] → total (λ i. weight_of w (named i)) xs ≡ 0) → weight_of w o + total (λ i. weight_of w (named i)) xs ≡ 0
-    by None e more = omega (arith, more e)
-    by (Some c) e more = absurd (cc)
-
-no-refers : (c : List ℕ) (xs : List Item) → refs_in xs ≡ [] → list_any (refers_to c) xs ≡ false
-no-refers c xs none = refs-any c xs ∙ ap (λ ns. has_name ns c) none
-
--- so a name counts and refers as before where such members come and go
-module _ (xs gone added : List Item) (distinct : AreDistinct xs) (former : AreFormer xs gone) (none-gone : refs_in gone ≡ []) (none-added : refs_in added ≡ []) where
-  plain-refers : (c : List ℕ) → list_any (refers_to c) (changed xs gone added) ≡ list_any (refers_to c) xs
-  plain-refers c = any-append _ (standing xs gone) added ∙ ap (λ b. list_any (refers_to c) (standing xs gone) || b) (no-refers c added none-added)
-      ∙ both-ways (list_any (refers_to c) (standing xs gone) || false) (list_any (refers_to c) xs)
-      (λ h. stood (refers_to c) xs gone (left _ h))
-      (λ h. right (list_any (refers_to c) (standing xs gone)) (list_any (refers_to c) gone) (no-refers c gone none-gone) (stands-or-gone (refers_to c) xs gone (gone-refers c gone) h))
-    where
-      left : (b : Bool) → (b || false) ≡ true → b ≡ true
-      left true h = refl
-      left false h = h
-
-      right : (a b : Bool) → b ≡ false → (a || b) ≡ true → (a || false) ≡ true
-      right true b e h = refl
-      right false b e h = absurd (false≢true (sym e ∙ h))
-
-  plain-counts : (w : List ℕ → ℕ) → total (λ i. weight_of w (named i)) (changed xs gone added) ≡ total (λ i. weight_of w (named i)) xs
-  plain-counts w =
-      let whole = total-append (λ i. weight_of w (named i)) (standing xs gone) added in
-      let parts = total-standing (λ i. weight_of w (named i)) xs gone distinct former in
-      omega (arith, no-weight w gone none-gone, no-weight w added none-added)
-
--- what is kept stays right where a name gets and loses members that refer to no name, and labels stay
-pub reach-plain : (t : Table) (ranks ranks2 : Ranks) (uses uses2 : Uses) (stamp stamp2 : ℕ) (r : Reach) (m : List ℕ) (gone added : List Item) → IsSound t ranks uses stamp → IsReach t ranks r
-    → is_some (entry_of t m) ≡ true → AreDistinct (items_of t m) → AreFormer (items_of t m) gone → refs_in gone ≡ [] → refs_in added ≡ []
-    → ((q : List ℕ) → label_of ranks2 q ≡ label_of ranks q) → keys_of ranks2 ≡ keys_of ranks → IsSound (changed_at t m gone added) ranks2 uses2 stamp2 → IsReach (changed_at t m gone added) ranks2 r
-reach-plain t ranks ranks2 uses uses2 stamp stamp2 r m gone added sound was there distinct former none-gone none-added labels keys sound2 =
-    reach-stays t (changed_at t m gone added) ranks ranks2 uses uses2 stamp stamp2 r sound sound2 was
-    (λ q _ _. alike q)
-    (λ q c out refers. out-refers t (changed_at t m gone added) ranks ranks2 uses uses2 stamp stamp2 r sound sound2 was q c out (sym ((alike q).0 c) ∙ refers))
-    (λ q h. sound2.ranked q ∙ stays q (sym (sound.ranked q) ∙ all-has (λ p. is_some (rank_of ranks p) ≡ true) (names_in r.ways.items) q was.above.there h))
-    (λ p q h i lt. let e = labels p in let f = labels q in omega arith)
-    (placed-same ranks ranks2 r.ways.items keys was.placed)
-  where
-    alike : (q : List ℕ) → IsAlike t (changed_at t m gone added) ranks ranks2 uses uses2 stamp stamp2 r sound sound2 was q
-    alike q = by (same_name m q) refl
-      where
-        by : (b : Bool) → same_name m q ≡ b → IsAlike t (changed_at t m gone added) ranks ranks2 uses uses2 stamp stamp2 r sound sound2 was q
-        by false e = alike-same t (changed_at t m gone added) ranks ranks2 uses uses2 stamp stamp2 r sound sound2 was q (ap items_in (changed-other t m gone added q e))
-        by true e = subst (λ n. IsAlike t (changed_at t m gone added) ranks ranks2 uses uses2 stamp stamp2 r sound sound2 was n) (same-is m q e) (
-          λ c. ap (list_any (refers_to c)) (changed-own t m gone added there) ∙ plain-refers (items_of t m) gone added distinct former none-gone none-added c,
-          ap (λ xs. total (λ i. weight_of (times_in r.ways.items) (named i)) xs) (changed-own t m gone added there) ∙ plain-counts (items_of t m) gone added distinct former none-gone none-added (times_in r.ways.items),
-        )
-
-    stays : (q : List ℕ) → is_some (entry_of t q) ≡ true → is_some (entry_of (changed_at t m gone added) q) ≡ true
-    stays q h = by (same_name m q) refl
-      where
-        by : (b : Bool) → same_name m q ≡ b → is_some (entry_of (changed_at t m gone added) q) ≡ true
-        by true e = ap (λ n. is_some (entry_of (changed_at t m gone added) n)) (sym (same-is m q e)) ∙ changed-there t m gone added there
-        by false e = ap is_some (changed-other t m gone added q e) ∙ h
-
--- all that is kept does
-pub kept-plain : (t : Table) (ranks ranks2 : Ranks) (uses uses2 : Uses) (stamp stamp2 : ℕ) (kept : List Reach) (m : List ℕ) (gone added : List Item) → IsSound t ranks uses stamp → IsReachKept t ranks kept
-    → is_some (entry_of t m) ≡ true → AreDistinct (items_of t m) → AreFormer (items_of t m) gone → refs_in gone ≡ [] → refs_in added ≡ []
-    → ((q : List ℕ) → label_of ranks2 q ≡ label_of ranks q) → keys_of ranks2 ≡ keys_of ranks → IsSound (changed_at t m gone added) ranks2 uses2 stamp2 → IsReachKept (changed_at t m gone added) ranks2 kept
-kept-plain t ranks ranks2 uses uses2 stamp stamp2 [] m gone added sound was there distinct former none-gone none-added labels keys sound2 = tt
-kept-plain t ranks ranks2 uses uses2 stamp stamp2 (r ∷ rs) m gone added sound was there distinct former none-gone none-added labels keys sound2 = (
-  reach-plain t ranks ranks2 uses uses2 stamp stamp2 r m gone added sound was.0 there distinct former none-gone none-added labels keys sound2,
-  kept-plain t ranks ranks2 uses uses2 stamp stamp2 rs m gone added sound was.1 there distinct former none-gone none-added labels keys sound2,
 )

@@ -1,40 +1,21 @@
 -- Totals that are told hold after a change; what a change of its references makes of the users of names.
-use Rattle.std.proofs.Common.{◌≡◌, ℕ, ◌+◌, ◌<◌, ◌⊎◌, inl, inr, Bool, true, false, cond, not, ◌||◌, ◌&&◌, List, [], ◌∷◌, ◌++◌, take, drop, Option, Some, None, Result, Ok, Err, is_some, refl, sym, ap, subst, ◌∙◌}
+use Rattle.std.proofs.Common.{◌≡◌, ℕ, ◌+◌, Bool, true, false, cond, not, ◌||◌, ◌&&◌, List, [], ◌∷◌, ◌++◌, Option, Some, None, Err, refl, sym, ap, ◌∙◌}
 use Rattle.std.specs.List.{AllByRecursion, filter, list_any}
 use Rattle.std.proofs.lemmas.Bool.{false≢true}
-use Rattle.std.proofs.lemmas.List.{take-append-drop}
 use Rattle.asa_members.specs.declared.stating.Item.{Item}
 use Rattle.asa_objects.specs.Amounts.{Amounts}
-use Rattle.asa_objects.specs.declared.ranking.Rank.{Rank}
 use Rattle.asa_objects.specs.declared.faults.ObjectFault.{ObjectFault}
 use Rattle.asa_objects.specs.declared.faults.ObjectFault.TheVariants as fault
 use Rattle.asa_objects.specs.Spreads.{total, weight_of}
 use Rattle.asa_objects.specs.Tables.{Entry, Table, entry_of, group_at, items_in, items_of, named, refers_to, same_name}
-use Rattle.asa_objects.specs.Ranks.{Part, members, services, amount, amount_in, Ranks, Uses, rank_of, users_of, has_name, weigh, own_totals}
-use Rattle.asa_objects.specs.Totalling.{newer, amount_now, Running, sum_now, AreRunning, AreSums, IsOver, IsRenewed, IsOutside, IsTold, Limits, Sums, Renews}
+use Rattle.asa_objects.specs.Ranks.{Part, amount, amount_in, Ranks, Uses, rank_of, users_of, has_name, weigh, own_totals}
+use Rattle.asa_objects.specs.Totalling.{newer, amount_now, AreSums, IsOutside, IsTold, Overfills}
 use Rattle.asa_objects.specs.Using.{AreUsed, AreUnused, IsPartUsed, unused_in}
 use Rattle.asa_objects.specs.Changing.{SameUsers, Replaces}
 use Rattle.asa_objects.proofs.LabelLaws.{same-is, same-self}
 use Rattle.asa_objects.proofs.ReachLaws.{any-append}
 use Rattle.asa_objects.proofs.ChangeLaws.{IsChange, each-ref, laid, new-refers}
 use Rattle.asa_objects.proofs.OverLaws.{over-false}
-
--- totals that are the sums over a name's members, as far as they are within the limit
-limits-sums : (after : Table) (ranks new : Ranks) (name : List ℕ) (run : Amounts) → AreSums after new ranks name run → (r : Result Amounts ObjectFault) → Limits run r → Sums after new ranks name r
-limits-sums after ranks new name run sums (Ok totals) h = (λ k. ap (amount k) h.0 ∙ sums k, h.1, h.2)
-limits-sums after ranks new name run sums (Err fault.TooMany) h = by h
-  where
-    by : (65536 < run.members) ⊎ (65536 < run.services) → IsOver after new ranks name
-    by (inl lt) = inl (subst (λ n. 65536 < n) (sums members) lt)
-    by (inr lt) = inr (subst (λ n. 65536 < n) (sums services) lt)
-limits-sums after ranks new name run sums (Err fault.NoMemory) h = absurd h
-limits-sums after ranks new name run sums (Err fault.NameTaken) h = h
-limits-sums after ranks new name run sums (Err (fault.Unknown l c)) h = h
-limits-sums after ranks new name run sums (Err (fault.Bad l c)) h = h
-limits-sums after ranks new name run sums (Err (fault.Unsupported l c)) h = h
-limits-sums after ranks new name run sums (Err (fault.Cycle l)) h = h
-limits-sums after ranks new name run sums (Err (fault.NoSuchMember l)) h = h
-limits-sums after ranks new name run sums (Err (fault.NotBuilt l)) h = h
 
 -- totals that are told hold where the names that members refer to aren't renewed
 module _ (t after : Table) (ranks : Ranks) (name : List ℕ) (told : Amounts) (names : List (List ℕ)) (is : IsTold t after ranks name told names) where
@@ -49,32 +30,11 @@ module _ (t after : Table) (ranks : Ranks) (name : List ℕ) (told : Amounts) (n
         ap (λ w. amount k (own_totals (group_at (entry_of after name)) x) + w + total (weigh k after (amount_now k [] ranks) name) xs) (weight-told (named x) apart.0)
         ∙ ap (λ r. weigh k after (amount_now k new ranks) name x + r) (sum-told xs apart.1)
 
-  -- what the code tells of a name's totals
-  pub sums-at : (new : Ranks) (sums : Running) (stamp i label : ℕ) (q : List ℕ) (r : Result Amounts ObjectFault) → IsRenewed after ranks stamp (take i names) new label
-      → AreRunning after new ranks name sums → (same_name name q ≡ true → Limits told r) → (same_name name q ≡ false → Limits (sum_now sums ranks q) r) → Sums after new ranks q r
-  sums-at new sums stamp i label q r renewed running here there = by (same_name name q) refl
-    where
-      none-of : (o : Option Rank) → is_some o ≡ false → o ≡ None
-      none-of None h = refl
-      none-of (Some x) h = absurd (cc)
-
-      first : (b c : Bool) → (b || c) ≡ false → b ≡ false
-      first false c h = refl
-      first true c h = absurd (cc)
-
-      old : (c : List ℕ) → has_name names c ≡ false → rank_of new c ≡ None
-      old c out = none-of (rank_of new c) (renewed.covers c
-          ∙ first (has_name (take i names) c) (has_name (drop i names) c) (sym (any-append _ (take i names) (drop i names)) ∙ ap (λ ns. has_name ns c) (take-append-drop i names) ∙ out))
-
-      by : (b : Bool) → same_name name q ≡ b → Sums after new ranks q r
-      by true e = subst (λ p. Sums after new ranks p r) (same-is name q e)
-          (limits-sums after ranks new name told (λ k. is.sums k ∙ sum-told new old k (items_of after name) is.apart) r (here e))
-      by false e = limits-sums after ranks new q (sum_now sums ranks q) (λ k. running k q e) r (there e)
-
 -- the name of a change, whose totals are told
 pub change-told : (t after : Table) (ranks : Ranks) (uses : Uses) (stamp : ℕ) (name : List ℕ) (made : Entry) (names : List (List ℕ)) (told : Amounts)
     → IsChange t after ranks uses stamp name made names → AreSums after [] ranks name told → IsTold t after ranks name told names
 change-told t after ranks uses stamp name made names told change sums = record {
+  order = change.above.order;
   laid = laid t after ranks uses stamp name made names change;
   others = λ q apart. change.entry q ∙ ap (λ b. cond b (Some made) (entry_of t q)) apart;
   sums = sums;
@@ -87,7 +47,7 @@ change-told t after ranks uses stamp name made names told change sums = record {
 
 -- a refusal of the renewal
 pub change-refused : (t after : Table) (ranks : Ranks) (uses : Uses) (stamp : ℕ) (name : List ℕ) (made : Entry) (names : List (List ℕ)) (f : ObjectFault)
-    → IsChange t after ranks uses stamp name made names → Renews after ranks stamp names (Err f) → Replaces t t after (Err f)
+    → IsChange t after ranks uses stamp name made names → Overfills after ranks stamp names f → Replaces t t after (Err f)
 change-refused t after ranks uses stamp name made names fault.TooMany change over = (over-false t after ranks uses stamp name made names change over, refl)
 change-refused t after ranks uses stamp name made names fault.NoMemory change over = refl
 change-refused t after ranks uses stamp name made names fault.NameTaken change over = over

@@ -1,5 +1,5 @@
 -- A change of the users of one name.
-use Rattle.std.proofs.Common.{◌≡◌, ℕ, ◌+◌, ◌<◌, suc, Bool, true, false, cond, not, ◌||◌, ◌&&◌, List, [], ◌∷◌, ◌++◌, length, take, drop, get_or, Option, Some, None, Result, Ok, Err, OnErr, refl, sym, ap, ◌∙◌, arith}
+use Rattle.std.proofs.Common.{◌≡◌, ℕ, ◌+◌, ◌<◌, suc, Bool, true, false, cond, not, ◌||◌, ◌&&◌, List, [], ◌∷◌, ◌++◌, length, take, drop, get_or, Option, Some, None, is_some, Result, Ok, Err, OnErr, refl, sym, ap, ◌∙◌, arith}
 use Rattle.std.specs.Map.{lookup}
 use Rattle.std.specs.BTreeMap.{is_at}
 use Rattle.std.specs.BTreeSet.{BTreeSet}
@@ -113,6 +113,19 @@ set-more s n names i d lt is was put q =
     as-or true false = refl
     as-or false true = refl
     as-or false false = refl
+
+-- a table of names, for look-ups, after one more name
+pub table-more : (old new : List ℕ → Option ℕ) (n : ℕ) (names : List (List ℕ)) (i : ℕ) (d : List ℕ) → i < length names → d ≡ get_or names i d
+    → ((q : List ℕ) → is_some (old q) ≡ has_name (take i names) q) → ((q : List ℕ) → new q ≡ cond (same_name d q) (Some n) (old q))
+    → (q : List ℕ) → is_some (new q) ≡ has_name (take (i + 1) names) q
+table-more old new n names i d lt is was put q =
+    ap is_some (put q) ∙ as-or (same_name d q) (old q) ∙ ap (λ b. b || same_name d q) (was q) ∙ ap (λ b. has_name (take i names) q || b) (same-sym d q) ∙ sym (has-more names i d q lt is)
+  where
+    as-or : (x : Bool) (o : Option ℕ) → is_some (cond x (Some n) o) ≡ (is_some o || x)
+    as-or true None = refl
+    as-or true (Some m) = refl
+    as-or false None = refl
+    as-or false (Some m) = refl
 
 -- users that stay the same
 pub users-kept : (m n : Uses) (name : List ℕ) (s made : BTreeSet (List ℕ)) → lookup (is_at (slice_cmp nat_cmp name)) m ≡ Some s

@@ -1,11 +1,6 @@
 -- The ways by which names lead to a name: how often it stands in each is the sum over what that refers to.
-use Rattle.std.proofs.Common.{◌≡◌, ℕ, ◌+◌, ◌*◌, ◌<◌, ◌≤◌, ◌⊎◌, inl, inr, suc, Bool, true, false, cond, ◌||◌, List, [], ◌∷◌, ◌++◌, length, take, drop, get_or, Option, Some, None, unwrap_or, Result, Ok, Err, OnOk, refl, sym, ap, subst, ◌∙◌, arith}
+use Rattle.std.proofs.Common.{◌≡◌, ℕ, ◌+◌, ◌*◌, ◌<◌, ◌≤◌, zero, suc, Bool, true, false, cond, ◌||◌, List, [], ◌∷◌, ◌++◌, length, take, get_or, Option, Some, None, is_some, unwrap_or, Result, Ok, Err, IfOk, refl, sym, ap, subst, ◌∙◌, arith}
 use Rattle.std.specs.List.{AllByRecursion, list_any}
-use Rattle.std.specs.List.Sorted.{IsStrictlySortedBy}
-use Rattle.std.specs.Map.{lookup}
-use Rattle.std.specs.BTreeMap.{is_at}
-use Rattle.std.specs.Ordering.{nat_cmp}
-use Rattle.std.specs.Cmp.Lexicographic.{slice_cmp}
 use Rattle.std.proofs.lemmas.Bool.{false≢true}
 use Rattle.std.proofs.Math.Seq.{take-suc}
 use Rattle.asa_members.specs.declared.stating.Item.{Item}
@@ -14,71 +9,19 @@ use Rattle.asa_objects.specs.declared.reaching.Way.{Way}
 use Rattle.asa_objects.specs.declared.reaching.Reach.{Reach}
 use Rattle.asa_objects.specs.Spreads.{total, weight_of}
 use Rattle.asa_objects.specs.Tables.{Table, items_of, named, refers_to, same_name}
-use Rattle.asa_objects.specs.Ranks.{IsSound, Ranks, Uses, label_of, users_of, has_name}
-use Rattle.asa_objects.specs.Climbing.{Rises, IsAbove}
-use Rattle.asa_objects.specs.Totalling.{times, times_among}
-use Rattle.asa_objects.specs.Reaching.{AreApart, AreTimes, count_of, IsPlaced, IsReach, names_in, times_in}
+use Rattle.asa_objects.specs.Ranks.{IsBelow, IsSound, Ranks, Uses, label_of, has_name}
+use Rattle.asa_objects.specs.Climbing.{AreReaching, IsAbove, IsInner, Rises}
+use Rattle.asa_objects.specs.Totalling.{times}
+use Rattle.asa_objects.specs.Reaching.{AreApart, AreTimes, found_in, IsPlaced, IsReach, known, names_in, times_in}
 use Rattle.asa_objects.proofs.LabelLaws.{same-is, same-self}
-use Rattle.asa_objects.proofs.ReachLaws.{test_of, any-append}
+use Rattle.asa_objects.proofs.ReachLaws.{test_of}
 use Rattle.asa_objects.proofs.UseLaws.{same-sym}
-use Rattle.asa_objects.proofs.ClimbLaws.{all-has, or-left, or-right, or-cases, refers-below, reaches-user}
-use Rattle.asa_objects.proofs.RenewLaws.{rises-before, cut-at}
+use Rattle.asa_objects.proofs.ClimbLaws.{all-has, or-left, or-right, refers-below, reaches-user}
 use Rattle.asa_objects.proofs.FitLaws.{above-it}
-use Rattle.asa_objects.proofs.PassLaws.{times-none, among-users}
-
--- a name's count after so much more
-pub count-added : (old new : List (List ℕ × ℕ)) (k n : List ℕ) (was more count : ℕ) → k ≡ n → was ≡ count_of old n → count ≡ was + more
-    → ((q : List ℕ) → lookup (is_at (slice_cmp nat_cmp q)) new ≡ cond (same_name k q) (Some count) (lookup (is_at (slice_cmp nat_cmp q)) old))
-    → (q : List ℕ) → count_of new q ≡ count_of old q + cond (same_name n q) more 0
-count-added old new k n was more count same is sum put q =
-    ap (λ o. unwrap_or o 0) (put q ∙ ap (λ m. cond (same_name m q) (Some count) (lookup (is_at (slice_cmp nat_cmp q)) old)) same) ∙ by (same_name n q) refl
-  where
-    by : (b : Bool) → same_name n q ≡ b → unwrap_or (cond b (Some count) (lookup (is_at (slice_cmp nat_cmp q)) old)) 0 ≡ count_of old q + cond b more 0
-    by true e = let here : count_of old n ≡ count_of old q = ap (count_of old) (same-is n q e) in omega arith
-    by false e = omega arith
-
--- what one user counts is as often as it refers to the name
-pub count-user : {E : Type 0} (t : Table) (n user : List ℕ) (count more got : ℕ) (old new : List (List ℕ × ℕ)) → got ≡ times n (items_of t user) → more ≡ got * count
-    → (r : Result (Unit {0}) E) → OnOk r ((q : List ℕ) → count_of new q ≡ count_of old q + cond (same_name user q) more 0)
-    → OnOk r ((q : List ℕ) → count_of new q ≡ count_of old q + cond (same_name user q) (times n (items_of t q)) 0 * count)
-count-user t n user count more got old new is product (Err f) added = tt
-count-user t n user count more got old new is product (Ok u) added = λ q. added q ∙ ap (λ m. count_of old q + m) (by q (same_name user q) refl)
-  where
-    by : (q : List ℕ) (b : Bool) → same_name user q ≡ b → cond b more 0 ≡ cond b (times n (items_of t q)) 0 * count
-    by q true e = product ∙ ap (λ m. m * count) (is ∙ ap (λ p. times n (items_of t p)) (same-is user q e))
-    by q false e = omega arith
+use Rattle.asa_objects.proofs.PassLaws.{times-none}
 
 add-times : (a b n : ℕ) → (a + b) * n ≡ a * n + b * n
 add-times a b n = grind arith
-
--- one more of the users has counted
-pub count-users : (t : Table) (n : List ℕ) (count : ℕ) (us rest left : List (List ℕ)) (user : List ℕ) (c0 c1 c2 : List (List ℕ × ℕ)) → left ≡ user ∷ rest
-    → ((q : List ℕ) → count_of c1 q + times_among t n left q * count ≡ count_of c0 q + times_among t n us q * count)
-    → ((q : List ℕ) → count_of c2 q ≡ count_of c1 q + cond (same_name user q) (times n (items_of t q)) 0 * count)
-    → (q : List ℕ) → count_of c2 q + times_among t n rest q * count ≡ count_of c0 q + times_among t n us q * count
-count-users t n count us rest left user c0 c1 c2 is was one q =
-    by (cond (same_name user q) (times n (items_of t q)) 0) (times_among t n rest q) (times_among t n us q * count) (count_of c0 q) (count_of c1 q) (count_of c2 q)
-    (subst (λ xs. count_of c1 q + times_among t n xs q * count ≡ count_of c0 q + times_among t n us q * count) is (was q)) (one q)
-  where
-    by : (c r all init now next : ℕ) → now + (c + r) * count ≡ init + all → next ≡ now + c * count → next + r * count ≡ init + all
-    by c r all init now next h i = let d = add-times c r count in omega arith
-
--- all users have counted
-pub count-all : {E : Type 0} (t : Table) (ranks : Ranks) (uses : Uses) (stamp : ℕ) → IsSound t ranks uses stamp → (n : List ℕ) (count : ℕ) (us : List (List ℕ)) (old new : List (List ℕ × ℕ))
-    → users_of uses n ≡ us → IsStrictlySortedBy (slice_cmp nat_cmp) us → (r : Result (Unit {0}) E) → OnOk r ((q : List ℕ) → count_of new q ≡ count_of old q + times_among t n us q * count)
-    → OnOk r ((q : List ℕ) → count_of new q ≡ count_of old q + times n (items_of t q) * count)
-count-all t ranks uses stamp sound n count us old new are sorted (Err f) counted = tt
-count-all t ranks uses stamp sound n count us old new are sorted (Ok u) counted = λ q.
-    counted q ∙ ap (λ c. count_of old q + c * count) (among-users t ranks uses stamp sound n us are sorted q)
-
--- a name without users counts nowhere
-pub count-none : (t : Table) (ranks : Ranks) (uses : Uses) (stamp : ℕ) → IsSound t ranks uses stamp → (n : List ℕ) (count : ℕ) (counts : List (List ℕ × ℕ)) → users_of uses n ≡ []
-    → (q : List ℕ) → count_of counts q ≡ count_of counts q + times n (items_of t q) * count
-count-none t ranks uses stamp sound n count counts none q =
-    by (count_of counts q) ∙ sym (ap (λ c. count_of counts q + c * count) (times-none n (items_of t q) (sym (sound.used n q) ∙ ap (λ ns. has_name ns q) none)))
-  where
-    by : (a : ℕ) → a ≡ a + 0 * count
-    by a = omega arith
 
 -- names along which labels rise stand there once each
 pub rises-apart : (label : List ℕ → ℕ) (ns : List (List ℕ)) → Rises label ns → AreApart ns
@@ -99,8 +42,8 @@ times-out (v ∷ ws) q h = by (same_name v.name q) (same-sym q v.name) h (times-
     by true e h more = absurd (false≢true (sym h ∙ or-left (same_name q v.name) (has_name (names_in ws) q) e))
     by false e h more = more (ap (λ x. x || has_name (names_in ws) q) (sym e) ∙ h)
 
--- one more way
-times-old : (ws : List Way) (w : Way) (q : List ℕ) → has_name (names_in ws) q ≡ true → times_in (ws ++ w ∷ []) q ≡ times_in ws q
+-- one more way: a name of the ways so far counts what it did, and another one what the new way says of it
+pub times-old : (ws : List Way) (w : Way) (q : List ℕ) → has_name (names_in ws) q ≡ true → times_in (ws ++ w ∷ []) q ≡ times_in ws q
 times-old [] w q h = absurd (cc)
 times-old (v ∷ ws) w q h = by (same_name v.name q) (same-sym q v.name) h (times-old ws w q)
   where
@@ -109,7 +52,7 @@ times-old (v ∷ ws) w q h = by (same_name v.name q) (same-sym q v.name) h (time
     by true e h more = refl
     by false e h more = more (ap (λ x. x || has_name (names_in ws) q) (sym e) ∙ h)
 
-times-new : (ws : List Way) (w : Way) (q : List ℕ) → has_name (names_in ws) q ≡ false → times_in (ws ++ w ∷ []) q ≡ cond (same_name w.name q) w.times 0
+pub times-new : (ws : List Way) (w : Way) (q : List ℕ) → has_name (names_in ws) q ≡ false → times_in (ws ++ w ∷ []) q ≡ cond (same_name w.name q) w.times 0
 times-new [] w q h = refl
 times-new (v ∷ ws) w q h = by (same_name v.name q) (same-sym q v.name) h (times-new ws w q)
   where
@@ -119,11 +62,90 @@ times-new (v ∷ ws) w q h = by (same_name v.name q) (same-sym q v.name) h (time
     by true e h more = absurd (false≢true (sym h ∙ or-left (same_name q v.name) (has_name (names_in ws) q) e))
     by false e h more = more (ap (λ x. x || has_name (names_in ws) q) (sym e) ∙ h)
 
+-- the names of the ways with one more of them
+pub names-push : (ws : List Way) (w : Way) → names_in (ws ++ w ∷ []) ≡ names_in ws ++ w.name ∷ []
+names-push [] w = refl
+names-push (v ∷ ws) w = ap (λ ns. v.name ∷ ns) (names-push ws w)
+
+-- how often a name stands in another is what is found of it
+pub found-times : (ws : List Way) (q : List ℕ) → times_in ws q ≡ unwrap_or (found_in ws q) 0
+found-times [] q = refl
+found-times (v ∷ ws) q = by (same_name v.name q) (found-times ws q)
+  where
+    by : (b : Bool) → times_in ws q ≡ unwrap_or (found_in ws q) 0 → cond b v.times (times_in ws q) ≡ unwrap_or (cond b (Some v.times) (found_in ws q)) 0
+    by true more = refl
+    by false more = more
+
+-- that is found of the names of the ways
+pub found-has : (ws : List Way) (q : List ℕ) → is_some (found_in ws q) ≡ has_name (names_in ws) q
+found-has [] q = refl
+found-has (v ∷ ws) q = by (same_name v.name q) (same_name q v.name) (same-sym q v.name) (found-has ws q)
+  where
+    by : (a b : Bool) → b ≡ a → is_some (found_in ws q) ≡ has_name (names_in ws) q → is_some (cond a (Some v.times) (found_in ws q)) ≡ (b || has_name (names_in ws) q)
+    by true true e more = refl
+    by false false e more = more
+    by true false e more = absurd (cc)
+    by false true e more = absurd (cc)
+
+-- one more way, from a name that has none yet
+pub found-more : (ws : List Way) (w : Way) (q : List ℕ) → has_name (names_in ws) w.name ≡ false → found_in (ws ++ w ∷ []) q ≡ cond (same_name w.name q) (Some w.times) (found_in ws q)
+found-more [] w q apart = refl
+found-more (v ∷ ws) w q apart = by (same_name v.name q) (same_name w.name q) refl refl (found-more ws w q (or-false (same_name w.name v.name) _ apart).1)
+  where
+    or-false : (a b : Bool) → (a || b) ≡ false → (a ≡ false) × (b ≡ false)
+    or-false false b h = (refl, h)
+    or-false true b h = absurd (cc)
+
+    by : (a b : Bool) → same_name v.name q ≡ a → same_name w.name q ≡ b → found_in (ws ++ w ∷ []) q ≡ cond (same_name w.name q) (Some w.times) (found_in ws q)
+        → cond a (Some v.times) (found_in (ws ++ w ∷ []) q) ≡ cond b (Some w.times) (cond a (Some v.times) (found_in ws q))
+    by true true e f more = absurd (false≢true (sym (or-false (same_name w.name v.name) _ apart).0 ∙ ap (same_name w.name) (same-is v.name q e) ∙ f))
+    by true false e f more = refl
+    by false true e f more = more ∙ ap (λ (b : Bool). cond b (Some w.times) (found_in ws q)) f
+    by false false e f more = more ∙ ap (λ (b : Bool). cond b (Some w.times) (found_in ws q)) f
+
+-- the name of a way is among the names of the ways
+has-at : (ways : List Way) (i : ℕ) (d : Way) → i < length ways → has_name (names_in ways) (get_or ways i d).name ≡ true
+has-at [] i d lt = absurd (omega arith)
+has-at (w ∷ ws) zero d lt = or-left _ _ (same-self w.name)
+has-at (w ∷ ws) (suc i) d lt = or-right _ _ (has-at ws i d (omega arith))
+
+-- where names stand once, the first is none of the later ones
+pub apart-at : (w : Way) (ws : List Way) (i : ℕ) (d : Way) → i < length ws → has_name (names_in ws) w.name ≡ false → same_name w.name (get_or ws i d).name ≡ false
+apart-at w ws i d lt none = by (same_name w.name (get_or ws i d).name) refl
+  where
+    by : (b : Bool) → same_name w.name (get_or ws i d).name ≡ b → same_name w.name (get_or ws i d).name ≡ false
+    by false e = e
+    by true e = let there : has_name (names_in ws) w.name ≡ true = ap (has_name (names_in ws)) (same-is w.name (get_or ws i d).name e) ∙ has-at ws i d lt in absurd (cc)
+
+-- and no name is one of those before it
+apart-before : (ways : List Way) (i : ℕ) (d : Way) → i < length ways → AreApart (names_in ways) → has_name (names_in (take i ways)) (get_or ways i d).name ≡ false
+apart-before [] i d lt apart = absurd (omega arith)
+apart-before (w ∷ ws) zero d lt apart = refl
+apart-before (w ∷ ws) (suc i) d lt apart =
+    ap (λ b. b || has_name (names_in (take i ws)) (get_or ws i d).name) (same-sym (get_or ws i d).name w.name ∙ apart-at w ws i d (omega arith) apart.0)
+    ∙ apart-before ws i d (omega arith) apart.1
+
+-- one more of the ways, as a loop over them goes
+take-more : (ways : List Way) (i : ℕ) (w : Way) → i < length ways → w ≡ get_or ways i w → take (i + 1) ways ≡ take i ways ++ w ∷ []
+take-more ways i w lt at = ap (λ j. take j ways) (add-one i) ∙ take-suc ways i w lt ∙ ap (λ v. take i ways ++ v ∷ []) (sym at)
+  where
+    add-one : (j : ℕ) → j + 1 ≡ suc j
+    add-one j = omega arith
+
+-- its number is put
+pub counted-way : (ways : List Way) (i : ℕ) (w : Way) (old new : List (List ℕ × ℕ)) → i < length ways → w ≡ get_or ways i w → AreApart (names_in ways)
+    → ((q : List ℕ) → known old q ≡ found_in (take i ways) q) → ((q : List ℕ) → known new q ≡ cond (same_name w.name q) (Some w.times) (known old q))
+    → (q : List ℕ) → known new q ≡ found_in (take (i + 1) ways) q
+counted-way ways i w old new lt at apart was put q =
+    put q ∙ ap (cond (same_name w.name q) (Some w.times)) (was q)
+    ∙ sym (ap (λ ws. found_in ws q) (take-more ways i w lt at)
+    ∙ found-more (take i ways) w q (ap (λ v. has_name (names_in (take i ways)) v.name) at ∙ apart-before ways i w lt apart))
+
 -- how often a name stands in another by what that refers to among these ways
 abbrev pub told : Table → List Way → List ℕ → ℕ
 told t ways q = total (λ w. times w.name (items_of t q) * w.times) ways
 
-told-push : (t : Table) (ws : List Way) (w : Way) (q : List ℕ) → told t (ws ++ w ∷ []) q ≡ told t ws q + times w.name (items_of t q) * w.times
+pub told-push : (t : Table) (ws : List Way) (w : Way) (q : List ℕ) → told t (ws ++ w ∷ []) q ≡ told t ws q + times w.name (items_of t q) * w.times
 told-push t [] w q = omega arith
 told-push t (v ∷ ws) w q = let more = told-push t ws w q in omega arith
 
@@ -181,134 +203,75 @@ pub sum-told : (t : Table) (ws : List Way) (q : List ℕ) → AreApart (names_in
 sum-told t [] q apart = sum-none (items_of t q)
 sum-told t (w ∷ ws) q apart = sum-more w ws apart.0 (items_of t q) ∙ ap (λ r. times w.name (items_of t q) * w.times + r) (sum-told t ws q apart.1)
 
--- what is counted by the ways from the first of the names
-pub record AreCounted (t : Table) (name : List ℕ) (before : List (List ℕ)) (ways : List Way) (counts : List (List ℕ × ℕ)) : Type 0 where
-  pub names : names_in ways ≡ before
-  pub sums : (q : List ℕ) → count_of counts q ≡ cond (same_name name q) 1 0 + told t ways q
-  pub times : (q : List ℕ) → has_name before q ≡ true → times_in ways q ≡ count_of counts q
-
-names-push : (ws : List Way) (w : Way) → names_in (ws ++ w ∷ []) ≡ names_in ws ++ w.name ∷ []
-names-push [] w = refl
-names-push (v ∷ ws) w = ap (λ ns. v.name ∷ ns) (names-push ws w)
+-- names of ways are counted as often as what they refer to tells
+abbrev pub AreCounted : Table → List ℕ → List Way → Type 0
+AreCounted t name ways = (q : List ℕ) → has_name (names_in ways) q ≡ true → times_in ways q ≡ cond (same_name name q) 1 0 + told t ways q
 
 module _ (t : Table) (ranks : Ranks) (uses : Uses) (stamp : ℕ) (sound : IsSound t ranks uses stamp) where
   -- a name isn't referred to by one whose label isn't greater
-  no-times : (n q : List ℕ) → label_of ranks q ≤ label_of ranks n → times n (items_of t q) ≡ 0
+  pub no-times : (n q : List ℕ) → label_of ranks q ≤ label_of ranks n → times n (items_of t q) ≡ 0
   no-times n q le = times-none n (items_of t q) (by (list_any (refers_to n) (items_of t q)) refl)
     where
       by : (b : Bool) → list_any (refers_to n) (items_of t q) ≡ b → list_any (refers_to n) (items_of t q) ≡ false
       by false e = e
       by true e = let lt = refers-below (label_of ranks) (label_of ranks q) n (items_of t q) (sound.falls q) e in absurd (omega arith)
 
-  -- one more name is counted
-  module _ (name : List ℕ) (before : List (List ℕ)) (u : List ℕ) (ways : List Way) (c1 c2 : List (List ℕ × ℕ)) (w : Way) (counted : AreCounted t name before ways c1)
-      (rises : AllByRecursion (λ p. label_of ranks p < label_of ranks u) before) (is : w.name ≡ u) (are : w.times ≡ count_of c1 u)
-      (more : (q : List ℕ) → count_of c2 q ≡ count_of c1 q + times u (items_of t q) * w.times) where
-    no-more : (q : List ℕ) → label_of ranks q ≤ label_of ranks u → count_of c2 q ≡ count_of c1 q
-    no-more q le = more q ∙ ap (λ c. count_of c1 q + c * w.times) (no-times u q le) ∙ by (count_of c1 q) w.times
-      where
-        by : (a b : ℕ) → a + 0 * b ≡ a
-        by a b = omega arith
-
-    less : (q : List ℕ) → has_name before q ≡ true → label_of ranks q < label_of ranks u
-    less q h = all-has (λ p. label_of ranks p < label_of ranks u) before q rises h
-
-    apart : has_name before u ≡ false
-    apart = by (has_name before u) refl
-      where
-        by : (b : Bool) → has_name before u ≡ b → has_name before u ≡ false
-        by false e = e
-        by true e = let lt = less u e in absurd (omega arith)
-
-    pub counted-more : AreCounted t name (before ++ u ∷ []) (ways ++ w ∷ []) c2
-    counted-more = record {
-      names = names-push ways w ∙ ap (λ ns. ns ++ w.name ∷ []) counted.names ∙ ap (λ n. before ++ n ∷ []) is;
-      sums = sums;
-      times = times-now;
-    }
-      where
-        add : (a b c : ℕ) → a + b + c ≡ a + (b + c)
-        add a b c = omega arith
-
-        sums : (q : List ℕ) → count_of c2 q ≡ cond (same_name name q) 1 0 + told t (ways ++ w ∷ []) q
-        sums q =
-            more q ∙ ap (λ n. n + times u (items_of t q) * w.times) (counted.sums q) ∙ add (cond (same_name name q) 1 0) (told t ways q) (times u (items_of t q) * w.times)
-            ∙ ap (λ n. cond (same_name name q) 1 0 + (told t ways q + times n (items_of t q) * w.times)) (sym is)
-            ∙ ap (λ n. cond (same_name name q) 1 0 + n) (sym (told-push t ways w q))
-
-        times-now : (q : List ℕ) → has_name (before ++ u ∷ []) q ≡ true → times_in (ways ++ w ∷ []) q ≡ count_of c2 q
-        times-now q h = by (or-cases (has_name before q) (has_name (u ∷ []) q) (sym (any-append _ before (u ∷ [])) ∙ h))
-          where
-            by : (has_name before q ≡ true) ⊎ (has_name (u ∷ []) q ≡ true) → times_in (ways ++ w ∷ []) q ≡ count_of c2 q
-            by (inl old) =
-                let lt = less q old in
-                times-old ways w q (ap (λ ns. has_name ns q) counted.names ∙ old) ∙ counted.times q old ∙ sym (no-more q (omega arith))
-            by (inr new) = at (or-cases (same_name q u) false new)
-              where
-                here : (p : List ℕ) → p ≡ u → times_in (ways ++ w ∷ []) p ≡ count_of c2 p
-                here p e =
-                    times-new ways w p (ap (λ ns. has_name ns p) counted.names ∙ ap (has_name before) e ∙ apart)
-                    ∙ ap (λ (b : Bool). cond {A = ℕ} b w.times 0) (ap (λ k. same_name k p) (is ∙ sym e) ∙ same-self p)
-                    ∙ are ∙ ap (count_of c1) (sym e)
-                    ∙ sym (no-more p (subst (λ k. label_of ranks k ≤ label_of ranks u) (sym e) (omega arith)))
-
-                at : (same_name q u ≡ true) ⊎ (false ≡ true) → times_in (ways ++ w ∷ []) q ≡ count_of c2 q
-                at (inl same) = here q (same-is q u same)
-                at (inr never) = absurd (cc)
-
   -- all names are counted
-  pub counted-all : (name : List ℕ) (names : List (List ℕ)) (ways : List Way) (counts : List (List ℕ × ℕ)) → IsAbove t ranks name names → AreCounted t name names ways counts → AreTimes t name ways
-  counted-all name names ways counts above counted q = by (has_name names q) refl ∙ ap (λ n. cond (same_name name q) 1 n) (sym (sum-told t ways q apart))
+  pub counted-all : (name : List ℕ) (ways : List Way) → IsAbove t ranks name (names_in ways) → AreCounted t name ways → AreTimes t name ways
+  counted-all name ways above counted q = by (has_name (names_in ways) q) refl ∙ ap (λ n. cond (same_name name q) 1 n) (sym (sum-told t ways q (rises-apart (label_of ranks) (names_in ways) above.rising)))
     where
-      apart : AreApart (names_in ways)
-      apart = subst AreApart (sym counted.names) (rises-apart (label_of ranks) names above.rising)
-
       -- none of the names is referred to by a name that is none of them, nor by the name itself
-      outside : has_name names q ≡ false → told t ways q ≡ 0
-      outside out = told-none t ways q (λ n h. times-none n (items_of t q) (none n (ap (λ ns. has_name ns n) (sym counted.names) ∙ h) (list_any (refers_to n) (items_of t q)) refl))
+      outside : has_name (names_in ways) q ≡ false → told t ways q ≡ 0
+      outside out = told-none t ways q (λ n h. times-none n (items_of t q) (none n h (list_any (refers_to n) (items_of t q)) refl))
         where
-          none : (n : List ℕ) → has_name names n ≡ true → (b : Bool) → list_any (refers_to n) (items_of t q) ≡ b → list_any (refers_to n) (items_of t q) ≡ false
+          none : (n : List ℕ) → has_name (names_in ways) n ≡ true → (b : Bool) → list_any (refers_to n) (items_of t q) ≡ b → list_any (refers_to n) (items_of t q) ≡ false
           none n h false e = e
           none n h true e = absurd (false≢true (sym out ∙ above.whole q ∙ reaches-user t ranks uses stamp name sound n q e (sym (above.whole n) ∙ h)))
 
       itself : name ≡ q → told t ways q ≡ 0
-      itself e = told-none t ways q (λ n h. no-times n q
-          (subst (λ k. label_of ranks k ≤ label_of ranks n) e (above-it t name ranks uses stamp sound n (sym (above.whole n) ∙ ap (λ ns. has_name ns n) (sym counted.names) ∙ h))))
+      itself e = told-none t ways q (λ n h. no-times n q (subst (λ k. label_of ranks k ≤ label_of ranks n) e (above-it t name ranks uses stamp sound n (sym (above.whole n) ∙ h))))
 
       inside : (b : Bool) → same_name name q ≡ b → cond {A = ℕ} b 1 0 + told t ways q ≡ cond b 1 (told t ways q)
       inside true e = ap (λ n. 1 + n) (itself (same-is name q e))
       inside false e = omega arith
 
-      nowhere : (b : Bool) → same_name name q ≡ b → has_name names q ≡ false → 0 ≡ cond b 1 (told t ways q)
+      nowhere : (b : Bool) → same_name name q ≡ b → has_name (names_in ways) q ≡ false → 0 ≡ cond b 1 (told t ways q)
       nowhere true e out = absurd (false≢true (sym out ∙ above.whole q ∙ or-left _ _ e))
       nowhere false e out = sym (outside out)
 
-      by : (b : Bool) → has_name names q ≡ b → times_in ways q ≡ cond (same_name name q) 1 (told t ways q)
-      by true e = counted.times q e ∙ counted.sums q ∙ inside (same_name name q) refl
-      by false e = times-out ways q (ap (λ ns. has_name ns q) counted.names ∙ e) ∙ nowhere (same_name name q) refl e
+      by : (b : Bool) → has_name (names_in ways) q ≡ b → times_in ways q ≡ cond (same_name name q) 1 (told t ways q)
+      by true e = counted q e ∙ inside (same_name name q) refl
+      by false e = times-out ways q e ∙ nowhere (same_name name q) refl e
 
--- the same, as a loop over the names goes
-pub counted-at : (t : Table) (ranks : Ranks) (uses : Uses) (stamp : ℕ) → IsSound t ranks uses stamp → (name : List ℕ) (names : List (List ℕ)) (i : ℕ) (d : List ℕ) (ways : List Way)
-    (c1 c2 : List (List ℕ × ℕ)) (w : Way) → i < length names → d ≡ get_or names i d → IsAbove t ranks name names → AreCounted t name (take i names) ways c1
-    → w.name ≡ d → w.times ≡ count_of c1 d → ((q : List ℕ) → count_of c2 q ≡ count_of c1 q + times d (items_of t q) * w.times)
-    → AreCounted t name (take (i + 1) names) (ways ++ w ∷ []) c2
-counted-at t ranks uses stamp sound name names i d ways c1 c2 w lt at above counted is are more =
-    let cut : names ≡ take i names ++ d ∷ drop (suc i) names = cut-at names i d lt ∙ ap (λ m. take i names ++ m ∷ drop (suc i) names) (sym at) in
-    let next : take (i + 1) names ≡ take i names ++ d ∷ [] = ap (λ j. take j names) (add-one i) ∙ take-suc names i d lt ∙ ap (λ m. take i names ++ m ∷ []) (sym at) in
-    subst (λ ns. AreCounted t name ns (ways ++ w ∷ []) c2) (sym next)
-    (counted-more t ranks uses stamp sound name (take i names) d ways c1 c2 w counted
-    (rises-before (label_of ranks) (take i names) d (drop (suc i) names) (subst (Rises (label_of ranks)) cut above.rising)) is are more)
+-- the names that reach a name, by their labels, are in an order along which references lead from later to earlier ones
+pub above-reaching : (t : Table) (ranks : Ranks) (uses : Uses) (stamp : ℕ) → IsSound t ranks uses stamp → (name : List ℕ) (names : List (List ℕ)) → IsAbove t ranks name names
+    → AreReaching t ranks name names
+above-reaching t ranks uses stamp sound name names above = record {
+  there = above.there;
+  order = label_of ranks;
+  laid = record { rising = above.rising; inner = λ q h. inner (label_of ranks q) (items_of t q) (sound.falls q) };
+  whole = above.whole;
+}
   where
-    add-one : (j : ℕ) → j + 1 ≡ suc j
-    add-one j = omega arith
+    below : (n : ℕ) (o : Option (List ℕ)) → IsBelow (label_of ranks) n o → IsInner names (label_of ranks) n o
+    below n None less = tt
+    below n (Some c) less = λ _. less
 
--- what is kept of a name, by its parts
-pub reach-is : (t : Table) (ranks : Ranks) (name : List ℕ) (names slice : List (List ℕ)) (r : Reach) → r.name ≡ name → slice ≡ names → IsAbove t ranks name names → names_in r.ways.items ≡ slice
-    → AreTimes t name r.ways.items → AllByRecursion (IsPlaced ranks) r.ways.items → r.names ≡ names → ((q : List ℕ) → has_name r.set.keys q ≡ has_name slice q) → IsReach t ranks r
-reach-is t ranks name names slice r is same above along times placed kept has = record {
-  above = subst (λ n. IsAbove t ranks n (names_in r.ways.items)) (sym is) (subst (IsAbove t ranks name) (sym (along ∙ same)) above);
-  times = subst (λ n. AreTimes t n r.ways.items) (sym is) times;
-  placed = placed;
-  names = kept ∙ sym (along ∙ same);
-  set = λ q. has q ∙ ap (λ ns. has_name ns q) (sym along);
+    inner : (n : ℕ) (xs : List Item) → AllByRecursion (λ i. IsBelow (label_of ranks) n (named i)) xs → AllByRecursion (λ i. IsInner names (label_of ranks) n (named i)) xs
+    inner n [] less = tt
+    inner n (x ∷ xs) less = (below n (named x) less.0, inner n xs less.1)
+
+-- what is kept of a name, by its ways
+pub reach-is : {E : Type 0} (t : Table) (ranks : Ranks) (uses : Uses) (stamp : ℕ) → IsSound t ranks uses stamp → (name : List ℕ) (ways : List Way)
+    → IsAbove t ranks name (names_in ways) → AreTimes t name ways → AllByRecursion (IsPlaced ranks) ways
+    → (r : Result Reach E) → IfOk r (λ x. x.name ≡ name) → IfOk r (λ x. x.ways.items ≡ ways) → IfOk r (λ x. x.names ≡ names_in ways)
+    → IfOk r (λ x. (q : List ℕ) → known x.counts.entries q ≡ found_in ways q) → IfOk r (λ x. IsReach t ranks x)
+reach-is t ranks uses stamp sound name ways above times placed (Err f) is same kept counts = tt
+reach-is t ranks uses stamp sound name ways above times placed (Ok r) is same kept counts = record {
+  above = subst (λ ws. AreReaching t ranks r.name (names_in ws)) (sym same)
+      (subst (λ n. AreReaching t ranks n (names_in ways)) (sym is) (above-reaching t ranks uses stamp sound name (names_in ways) above));
+  times = subst (λ ws. AreTimes t r.name ws) (sym same) (subst (λ n. AreTimes t n ways) (sym is) times);
+  placed = subst (AllByRecursion (IsPlaced ranks)) (sym same) placed;
+  names = kept ∙ ap names_in (sym same);
+  counts = λ q. counts q ∙ ap (λ ws. found_in ws q) (sym same);
 }

@@ -1,5 +1,5 @@
 -- The members of a name change.
-use Rattle.std.specs.Prelude.{◌≡◌, ℕ, not, true, false, List, [], Option, Some, None, Result, Ok, Err, is_some}
+use Rattle.std.specs.Prelude.{◌≡◌, ℕ, not, true, false, List, ◌++◌, Option, Some, None, Result, Ok, Err, is_some}
 use Rattle.std.specs.List.{AllByRecursion, filter, list_any}
 use Rattle.asa_objects.specs.declared.faults.ObjectFault.{ObjectFault}
 use Rattle.asa_objects.specs.declared.faults.ObjectFault.TheVariants as fault
@@ -13,13 +13,13 @@ use Rattle.asa_objects.specs.Totalling.{totals_in_rank}
 use Rattle.asa_objects.specs.Using.{AreUsed, AreUnused, unused_in}
 use Rattle.asa_objects.specs.Weighing.{weights}
 
--- each of the names has a rank
-abbrev pub AreRanked : Ranks → List (List ℕ) → Type 0
-AreRanked ranks names = AllByRecursion (λ q. is_some (rank_of ranks q) ≡ true) names
-
 -- what is kept of the users of names stays
 abbrev pub SameUsers : Uses → Uses → Type 0
 SameUsers old new = (q u : List ℕ) → has_name (users_of new q) u ≡ has_name (users_of old q) u
+
+-- each of the names has a rank
+abbrev pub AreRanked : Ranks → List (List ℕ) → Type 0
+AreRanked ranks names = AllByRecursion (λ q. is_some (rank_of ranks q) ≡ true) names
 
 -- a name came to refer to some names, then it no longer refers to others
 abbrev pub UsersMove : Uses → Uses → List ℕ → List (List ℕ) → List (List ℕ) → Type 0
@@ -46,9 +46,9 @@ freed_among items names = filter (λ c. not (list_any (refers_to c) items)) name
 abbrev pub freed_by : List Item → List Item → List Item → List (List ℕ)
 freed_by former gone added = freed_among (changed former gone added) (refs_in gone)
 
--- no member that goes or comes refers to a name
-abbrev pub IsPlain : List Item → List Item → Type 0
-IsPlain gone added = (refs_in gone ≡ []) × (refs_in added ≡ [])
+-- the names that members refer to which come or go
+abbrev pub moving : List Item → List Item → List (List ℕ)
+moving gone added = refs_in added ++ refs_in gone
 
 -- what a change of a name's members does: which names come to be referred to, which no longer are, and what totals the name
 -- then has

@@ -5,6 +5,7 @@ pub mod Defining
 pub mod Ranks
 pub mod Climbing
 pub mod Totalling
+pub mod Summing
 pub mod Using
 pub mod Changing
 pub mod Drafting
@@ -15,3 +16,4 @@ pub mod Keeping
 pub mod Weighing
 pub mod Ordering
 pub mod Reaching
+pub mod Graphs

@@ -1,19 +1,14 @@
 -- New totals and labels of the names that reach a name, one after another, each from those that are new already.
 use Rattle.std.specs.Prelude.{◌≡◌, ℕ, ◌+◌, ◌*◌, ◌<◌, ◌≤◌, ◌⊎◌, true, false, cond, List, [], ◌∷◌, ◌++◌, Option, Some, None, Result, Ok, Err, is_some}
 use Rattle.std.specs.List.{AllByRecursion}
-use Rattle.std.specs.Map.{lookup}
-use Rattle.std.specs.BTreeMap.{is_at}
-use Rattle.std.specs.Ordering.{nat_cmp}
-use Rattle.std.specs.Cmp.Lexicographic.{slice_cmp}
 use Rattle.asa_members.specs.declared.stating.Item.{Item}
 use Rattle.asa_objects.specs.Amounts.{Amounts}
 use Rattle.asa_objects.specs.declared.ranking.Rank.{Rank}
-use Rattle.asa_objects.specs.declared.totaling.Renewed.{Renewed}
 use Rattle.asa_objects.specs.declared.faults.ObjectFault.{ObjectFault}
 use Rattle.asa_objects.specs.declared.faults.ObjectFault.TheVariants as fault
 use Rattle.asa_objects.specs.Spreads.{total}
 use Rattle.asa_objects.specs.Tables.{Table, entry_of, items_of, named, refers_to, same_name}
-use Rattle.asa_objects.specs.Climbing.{Rises}
+use Rattle.asa_objects.specs.Climbing.{IsInner, IsLaid}
 use Rattle.asa_objects.specs.Ranks.{Part, members, services, amount, Ranks, rank_of, label_of, amount_in, amount_of, has_name, weigh, no_totals}
 
 -- the rank that is new, or else the old one
@@ -48,55 +43,20 @@ times name items = total (λ i. cond (refers_to name i) 1 0) items
 abbrev pub times_among : Table → List ℕ → List (List ℕ) → List ℕ → ℕ
 times_among t name users q = total (λ u. cond (same_name u q) (times name (items_of t q)) 0) users
 
--- the totals of names that refer to new ones, as far as these go
-abbrev pub Running : Type 0
-Running = List (List ℕ × Amounts)
-
--- a name's running totals
-abbrev pub sum_of : Running → List ℕ → Option Amounts
-sum_of sums name = lookup (is_at (slice_cmp nat_cmp name)) sums
-
--- the totals that are new, or else the old ones
-abbrev pub or_old : Option Amounts → Amounts → Amounts
-or_old None old = old
-or_old (Some new) old = new
-
--- the running totals of a name, or else those that are kept of it
-abbrev pub sum_now : Running → Ranks → List ℕ → Amounts
-sum_now sums ranks name = or_old (sum_of sums name) (totals_in_rank (rank_of ranks name))
-
 -- totals after so many old ones in them became new ones
 abbrev pub AreMoved : ℕ → Amounts → Amounts → Amounts → Amounts → Type 0
 AreMoved count old new before after = (k : Part) → amount k after + count * amount k old ≡ amount k before + count * amount k new
 
--- a name's totals became others, and each name's running totals tell it as often as it refers to that name
-abbrev pub ArePassed : Table → Ranks → List ℕ → Amounts → Amounts → Running → Running → Type 0
-ArePassed t ranks name old new before after = (q : List ℕ) → AreMoved (times name (items_of t q)) old new (sum_now before ranks q) (sum_now after ranks q)
-
--- running totals are the sums over the members of each name but for the one that changes
-abbrev pub AreRunning : Table → Ranks → Ranks → List ℕ → Running → Type 0
-AreRunning t new ranks changed sums = (k : Part) (q : List ℕ) → same_name changed q ≡ false → amount k (sum_now sums ranks q) ≡ summed k t new ranks q
-
 -- a name has too many members
 abbrev pub IsOver : Table → Ranks → Ranks → List ℕ → Type 0
 IsOver t new ranks name = (65536 < summed members t new ranks name) ⊎ (65536 < summed services t new ranks name)
-
--- a name among these that is referred to has a lesser label
-abbrev pub IsInner : List (List ℕ) → (List ℕ → ℕ) → ℕ → Option (List ℕ) → Type 0
-IsInner names label n None = Unit {0}
-IsInner names label n (Some name) = has_name names name ≡ true → label name < n
-
--- names whose labels rise, and along which references lead from later to earlier ones
-pub record IsLaid (t : Table) (ranks : Ranks) (names : List (List ℕ)) : Type 0 where
-  pub rising : Rises (label_of ranks) names
-  pub inner : (q : List ℕ) → has_name names q ≡ true → AllByRecursion (λ i. IsInner names (label_of ranks) (label_of ranks q) (named i)) (items_of t q)
 
 -- the new ranks of the first of these names, with labels from the stamp on
 pub record IsRenewed (t : Table) (ranks : Ranks) (stamp : ℕ) (names : List (List ℕ)) (new : Ranks) (label : ℕ) : Type 0 where
   pub covers : (q : List ℕ) → is_some (rank_of new q) ≡ has_name names q
   pub later : stamp ≤ label
   pub fresh : (q : List ℕ) → is_some (rank_of new q) ≡ true → (stamp ≤ label_of new q) × (label_of new q < label)
-  pub order : (p q : List ℕ) → is_some (rank_of new p) ≡ true → is_some (rank_of new q) ≡ true → label_of ranks p < label_of ranks q → label_of new p < label_of new q
+  pub inner : (q : List ℕ) → has_name names q ≡ true → AllByRecursion (λ i. IsInner names (label_of new) (label_of new q) (named i)) (items_of t q)
   pub unlike : (p q : List ℕ) → is_some (rank_of new p) ≡ true → is_some (rank_of new q) ≡ true → label_of new p ≡ label_of new q → p ≡ q
   pub sums : (k : Part) (q : List ℕ) → is_some (rank_of new q) ≡ true → amount_of k new q ≡ summed k t new ranks q
 
@@ -114,6 +74,12 @@ pub record IsOverfull (t : Table) (ranks : Ranks) (stamp : ℕ) (names : List (L
   pub label : ℕ
   pub renewed : IsRenewed t ranks stamp before new label
   pub over : IsOver t new ranks name
+
+-- what a fault in the renewal of these names tells
+abbrev pub Overfills : Table → Ranks → ℕ → List (List ℕ) → ObjectFault → Type 0
+Overfills t ranks stamp names fault.TooMany = IsOverfull t ranks stamp names
+Overfills t ranks stamp names fault.NoMemory = Unit {0}
+Overfills t ranks stamp names _ = ⊥
 
 -- what a sum over a name's members may answer
 abbrev pub Sums : Table → Ranks → Ranks → List ℕ → Result Amounts ObjectFault → Type 0
@@ -135,14 +101,8 @@ IsOutside names (Some name) = has_name names name ≡ false
 
 -- after is the table t but for what one name stands for, whose totals then are those that are told
 pub record IsTold (t after : Table) (ranks : Ranks) (name : List ℕ) (told : Amounts) (names : List (List ℕ)) : Type 0 where
-  pub laid : IsLaid after ranks names
+  pub order : List ℕ → ℕ
+  pub laid : IsLaid after order names
   pub others : (q : List ℕ) → same_name name q ≡ false → entry_of after q ≡ entry_of t q
   pub sums : AreSums after [] ranks name told
   pub apart : AllByRecursion (λ i. IsOutside names (named i)) (items_of after name)
-
--- what the renewal of all these names may answer
-abbrev pub Renews : Table → Ranks → ℕ → List (List ℕ) → Result Renewed ObjectFault → Type 0
-Renews t ranks stamp names (Ok x) = IsRenewed t ranks stamp names x.ranks.entries x.label × AreSmall x.ranks.entries
-Renews t ranks stamp names (Err fault.TooMany) = IsOverfull t ranks stamp names
-Renews t ranks stamp names (Err fault.NoMemory) = Unit {0}
-Renews t ranks stamp names (Err _) = ⊥

@@ -2,68 +2,34 @@
 ghost use Rattle.std.specs.Prelude.{◌≡◌, ℕ, List, [], ◌++◌, true, false, cond, Some, None, is_some, IfSome, IfErr, IfOk, OnOk, OnErr};
 ghost use Rattle.asa_objects.specs.declared.faults.ObjectFault.TheVariants as fault;
 ghost use Rattle.asa_objects.specs.Changing as spec;
-ghost use Rattle.asa_objects.specs.Climbing.{IsAbove};
+ghost use Rattle.asa_objects.specs.Graphs.{IsGraphKept};
 ghost use Rattle.asa_objects.specs.Marks.{AreFormer, AreNew, changed, standing};
-ghost use Rattle.asa_objects.specs.Ranks.{IsSound, both_totals, has_name, rank_of, refs_in, users_of};
+ghost use Rattle.asa_objects.specs.Ranks.{IsSound, both_totals, rank_of, refs_in};
 ghost use Rattle.asa_objects.specs.Reaching.{IsReach, IsReachKept};
-ghost use Rattle.asa_objects.specs.Tables.{entry_of, group_at, items_of, named, refers_to, same_name};
-ghost use Rattle.asa_objects.specs.Totalling.{newer, totals_in_rank};
+ghost use Rattle.asa_objects.specs.Tables.{entry_of, items_of, named, refers_to};
+ghost use Rattle.asa_objects.specs.Totalling.{totals_in_rank};
 ghost use Rattle.asa_objects.specs.Using.{AreUsed, AreUnused, unused_in};
 ghost use Rattle.asa_objects.specs.Weighing.{weights};
 ghost use Rattle.std.specs.List.{AllByRecursion, list_any};
-ghost use Rattle.std.specs.Map.{keys_of};
 ghost use Rattle.std.specs.Option.{option_to_list};
 
 use crate::drafting::Change;
 use crate::faults::ObjectFault;
+use crate::following::follow_all;
+use crate::graphing::move_graph;
 use crate::ordering::OrderedItems;
-use crate::ranking::{Rank, Totals, place_of, set_rank_at, totals_of};
+use crate::ranking::{Rank, Totals, totals_of};
 use crate::reaching::Reach;
-use crate::renewing::{renewed_by, retotal_by, set_by};
-use crate::totaling::{Renewed, renew};
+use crate::renewing::{renewed_by, set_by};
+use crate::stepping::Steps;
 use crate::using::{add_uses, drop_uses, unused_of};
 use crate::valuing::{Stated, group_of, name_in};
 use crate::weighing::{weight_of_items, weight_of_slice};
 use asa_base::Name;
 use asa_members::{GroupKind, Item};
-use asa_text::Shared;
 use indexmap::IndexMap;
 use std::alloc::{AllocError, Global};
 use std::collections::{BTreeMap, BTreeSet};
-
-/// Puts another rank at a name that has one.
-fn set_rank(ranks: &mut IndexMap<Name, Rank>, name: &Name, rank: Rank)
-    requires { is_some (rank_of ranks.old.entries name.now) ≡ true }
-    ensures value { (q : List ℕ) → rank_of ranks.new.entries q ≡ cond (same_name name.now q) (Some rank) (rank_of ranks.old.entries q) }
-    ensures keys { keys_of ranks.new.entries ≡ keys_of ranks.old.entries }
-{
-    match place_of(ranks, name) {
-        Some(place) => set_rank_at(ranks, place, rank),
-        None => unreachable!(),
-    }
-}
-
-/// Puts the new rank of a name, where there is one, at the name, which has a rank.
-fn set_new_rank(ranks: &mut IndexMap<Name, Rank>, new: &IndexMap<Name, Rank>, name: &Name)
-    requires { is_some (rank_of ranks.old.entries name.now) ≡ true }
-    ensures value { (q : List ℕ) → rank_of ranks.new.entries q ≡ cond (same_name name.now q) (newer (rank_of new.now.entries name.now) (rank_of ranks.old.entries q)) (rank_of ranks.old.entries q) }
-    ensures keys { keys_of ranks.new.entries ≡ keys_of ranks.old.entries }
-{
-    if let Some(rank) = new.get(name) {
-        set_rank(ranks, name, *rank);
-    }
-}
-
-/// Puts the new ranks of names, which have ranks, in place of the old ones.
-fn set_ranks(ranks: &mut IndexMap<Name, Rank>, new: &IndexMap<Name, Rank>, names: &[Name])
-    requires { spec.AreRanked ranks.old.entries names.now }
-    ensures value { (q : List ℕ) → rank_of ranks.new.entries q ≡ cond (has_name names.now q) (newer (rank_of new.now.entries q) (rank_of ranks.old.entries q)) (rank_of ranks.old.entries q) }
-    ensures keys { keys_of ranks.new.entries ≡ keys_of ranks.old.entries }
-{
-    for name in names {
-        set_new_rank(ranks, new, name);
-    }
-}
 
 /// Takes back that a name refers to others, to which it didn't refer before.
 fn forget_refs(uses: &mut BTreeMap<Name, BTreeSet<Name>>, name: &Name, refs: &[Name])
@@ -101,7 +67,9 @@ pub(crate) struct Kept {
     /// The next label.
     pub(crate) stamp: u64,
     /// The names that reach some names that changed, as far as they are kept.
-    pub(crate) reach: Vec<Shared<Reach>>,
+    pub(crate) reach: Vec<Reach>,
+    /// The steps from each place to the names that refer to its name, as far as they are known.
+    pub(crate) graph: Vec<Steps>,
 }
 
 /// The value of a name that is there.
@@ -145,18 +113,17 @@ fn refs_of(alloc: Global, items: &OrderedItems) -> Result<Vec<Name>, AllocError>
     Ok(refs)
 }
 
-/// Whether one of some members refers to a name.
-fn has_ref_in(items: &[Item]) -> bool
-    ensures { result ≡ list_any (λ i. is_some (named i)) items.now }
+/// The names that members refer to which come or go.
+fn moving_refs(alloc: Global, change: &Change) -> Result<Vec<Name>, AllocError>
+    ensures { IfOk result (λ v. v.items ≡ spec.moving change.now.gone.keys change.now.added) }
 {
-    items.iter().any(|item| name_in(item).is_some())
-}
-
-/// Whether one of some members refers to a name.
-fn has_ref(items: &OrderedItems) -> bool
-    ensures { result ≡ list_any (λ i. is_some (named i)) items.now }
-{
-    items.values().any(|item| name_in(item).is_some())
+    let mut names = refs_of(alloc, &change.added)?;
+    for item in change.gone.as_slice() {
+        if let Some(name) = name_in(item) {
+            names.push(name.copy())?;
+        }
+    }
+    Ok(names)
 }
 
 /// Whether a member refers to a name after a change of the members.
@@ -212,14 +179,14 @@ fn totals_after(
 /// What a change of a name's members does: the names that come to be referred to, those that no longer are, and the totals
 /// that the name then has.
 #[derive(Debug, Drop)]
-struct Effect {
-    refs: Vec<Name>,
-    freed: Vec<Name>,
-    totals: Totals,
+pub(crate) struct Effect {
+    pub(crate) refs: Vec<Name>,
+    pub(crate) freed: Vec<Name>,
+    pub(crate) totals: Totals,
 }
 
 /// What a change of the members of a name that is there does. A total that passes its type's end counts as want of memory.
-fn effect_of(
+pub(crate) fn effect_of(
     alloc: Global,
     values: &BTreeMap<Name, Stated>,
     ranks: &IndexMap<Name, Rank>,
@@ -246,7 +213,7 @@ fn effect_of(
 
 /// Puts the changed members at a name that is there, and notes which names it refers to then. On want of memory all is as
 /// before.
-fn take_effect(
+pub(crate) fn take_effect(
     alloc: Global,
     values: &mut BTreeMap<Name, Stated>,
     uses: &mut BTreeMap<Name, BTreeSet<Name>>,
@@ -275,51 +242,9 @@ fn take_effect(
     }
 }
 
-/// Changes the members of a name that is there and that `names` reach, in the order of their labels. Unless a copy shares the
-/// members that the name has, this costs nothing that grows with them. After a refusal all is as before.
+/// Changes the members of a name that is there, with the names that reach it. What is kept of names that reach others follows.
+/// Unless a copy shares the members that the name has, this costs nothing that grows with them. After a refusal all is as before.
 pub(crate) fn change_members(
-    alloc: Global,
-    values: &mut BTreeMap<Name, Stated>,
-    kept: &mut Kept,
-    name: &Name,
-    change: &Change,
-    names: &[Name],
-) -> Result<(), ObjectFault>
-    requires sound { IsSound values.old.entries kept.old.ranks.entries kept.old.uses.entries kept.old.stamp }
-    requires there { is_some (entry_of values.old.entries name.now) ≡ true }
-    requires above { IsAbove values.old.entries kept.old.ranks.entries name.now names.now }
-    requires new { AreNew (standing (items_of values.old.entries name.now) change.now.gone.keys) change.now.added }
-    requires former { AreFormer (items_of values.old.entries name.now) change.now.gone.keys }
-    requires fits { AllByRecursion (λ i. spec.Fits values.old.entries name.now (named i)) (changed (items_of values.old.entries name.now) change.now.gone.keys change.now.added) }
-    ensures sound { IsSound values.new.entries kept.new.ranks.entries kept.new.uses.entries kept.new.stamp }
-    ensures answer { spec.Replaces values.old.entries values.new.entries (spec.changed_at values.old.entries name.now change.now.gone.keys change.now.added) result }
-    ensures others { (q : List ℕ) → has_name names.now q ≡ false → rank_of kept.new.ranks.entries q ≡ rank_of kept.old.ranks.entries q }
-    ensures keys { keys_of kept.new.ranks.entries ≡ keys_of kept.old.ranks.entries }
-    ensures ranks { OnErr result (kept.new.ranks.entries ≡ kept.old.ranks.entries) }
-    ensures reach { kept.new.reach.items ≡ kept.old.reach.items }
-{
-    let effect = effect_of(alloc, values, &kept.ranks, name, change)?;
-    let renewed = renew(alloc, values, kept, name, effect.totals, names)?;
-    take_effect(alloc, values, &mut kept.uses, name, change, &effect)?;
-    set_ranks(&mut kept.ranks, &renewed.ranks, names);
-    kept.stamp = renewed.label;
-    Ok(())
-}
-
-/// Whether no member that goes or comes refers to a name.
-fn is_plain(change: &Change) -> bool
-    ensures { result ≡ true → spec.IsPlain change.now.gone.keys change.now.added }
-{
-    if has_ref_in(change.gone.as_slice()) {
-        return false;
-    }
-    !has_ref(&change.added)
-}
-
-/// Changes the members of a name that is there, with the names that reach it. What is kept of other names stays where no member
-/// that goes or comes refers to one, or else is dropped. Unless a copy shares the members that the name has, this costs nothing
-/// that grows with them. After a refusal all is as before.
-pub(crate) fn change_by(
     alloc: Global,
     values: &mut BTreeMap<Name, Stated>,
     kept: &mut Kept,
@@ -332,25 +257,26 @@ pub(crate) fn change_by(
     requires new { AreNew (standing (items_of values.old.entries reach.now.name) change.now.gone.keys) change.now.added }
     requires former { AreFormer (items_of values.old.entries reach.now.name) change.now.gone.keys }
     requires kept { IsReachKept values.old.entries kept.old.ranks.entries kept.old.reach.items }
+    requires graph { IsGraphKept values.old.entries kept.old.ranks.entries kept.old.graph.items }
     requires fits { AllByRecursion (λ i. spec.Fits values.old.entries reach.now.name (named i)) (changed (items_of values.old.entries reach.now.name) change.now.gone.keys change.now.added) }
     ensures sound { IsSound values.new.entries kept.new.ranks.entries kept.new.uses.entries kept.new.stamp }
     ensures answer { spec.Replaces values.old.entries values.new.entries (spec.changed_at values.old.entries reach.now.name change.now.gone.keys change.now.added) result }
     ensures reach { IsReach values.new.entries kept.new.ranks.entries reach.now }
     ensures kept { IsReachKept values.new.entries kept.new.ranks.entries kept.new.reach.items }
+    ensures graph { IsGraphKept values.new.entries kept.new.ranks.entries kept.new.graph.items }
 {
     let name = &reach.name;
     let ways = reach.ways.as_slice();
+    let moving = moving_refs(alloc, change)?;
     let effect = effect_of(alloc, values, &kept.ranks, name, change)?;
     let old = totals_of(&kept.ranks, name);
     let renewed = renewed_by(alloc, &kept.ranks, ways, kept.stamp, old, effect.totals)?;
     take_effect(alloc, values, &mut kept.uses, name, change, &effect)?;
-    if is_plain(change) {
-        retotal_by(&mut kept.ranks, ways, renewed.ranks.as_slice());
-        return Ok(());
-    }
     set_by(&mut kept.ranks, ways, renewed.ranks.as_slice());
     kept.stamp = renewed.label;
-    kept.reach.clear();
+    let names = moving.as_slice();
+    follow_all(alloc, &mut kept.reach, reach, change, names);
+    move_graph(values, &kept.ranks, &mut kept.graph, name, change, names);
     Ok(())
 }
 
@@ -386,6 +312,7 @@ impl Kept {
         ensures uses { IfOk result (λ k. spec.SameUsers self.now.uses.entries k.uses.entries) }
         ensures stamp { IfOk result (λ k. k.stamp ≡ self.now.stamp) }
         ensures reach { IfOk result (λ k. k.reach.items ≡ []) }
+        ensures graph { IfOk result (λ k. k.graph.items ≡ []) }
     {
         let ranks = copy_ranks(&self.ranks)?;
         let uses = copy_uses(&self.uses)?;
@@ -394,6 +321,7 @@ impl Kept {
             uses,
             stamp: self.stamp,
             reach: Vec::new(alloc),
+            graph: Vec::new(alloc),
         })
     }
 }

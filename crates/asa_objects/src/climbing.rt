@@ -3,8 +3,7 @@ ghost use Rattle.std.specs.Prelude.{◌≡◌, ℕ, ◌<◌, List, OnOk, IfOk, t
 ghost use Rattle.std.specs.BTreeMap.{get};
 ghost use Rattle.std.specs.Ordering.{nat_cmp};
 ghost use Rattle.asa_objects.specs.Climbing.{IsAbove, waits};
-ghost use Rattle.asa_objects.specs.Ranks.{IsSound, has_name, label_of, rank_of, users_of};
-ghost use Rattle.asa_objects.specs.Tables.{reaches};
+ghost use Rattle.asa_objects.specs.Ranks.{IsSound, label_of, rank_of, users_of};
 
 use crate::ranking::Rank;
 use crate::valuing::Stated;
@@ -75,25 +74,4 @@ pub(crate) fn above(
         floor = label + 1;
     }
     Ok(found)
-}
-
-/// The names that reach a name. None but itself reaches a name that isn't in the table.
-pub(crate) fn reaching(
-    alloc: Global,
-    values: &BTreeMap<Name, Stated>,
-    ranks: &IndexMap<Name, Rank>,
-    uses: &BTreeMap<Name, BTreeSet<Name>>,
-    stamp: u64,
-    name: &Name,
-) -> Result<Vec<Name>, AllocError>
-    requires { IsSound values.now.entries ranks.now.entries uses.now.entries stamp }
-    ensures { IfOk result (λ v. (q : List ℕ) → has_name v.items q ≡ reaches values.now.entries q name.now) }
-{
-    if ranks.contains_key(name) {
-        let names = above(alloc, values, ranks, uses, stamp, name)?;
-        return Ok(names);
-    }
-    let mut names = Vec::new(alloc);
-    names.push(name.copy())?;
-    Ok(names)
 }

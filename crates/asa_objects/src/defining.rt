@@ -2,27 +2,29 @@
 ghost use Rattle.std.specs.Prelude.{◌≡◌, ℕ, List, true, is_some, IsSomeAnd, None, Some};
 ghost use Rattle.asa_objects.specs.Defining as spec;
 ghost use Rattle.asa_objects.specs.Drafting as over;
+ghost use Rattle.asa_objects.specs.Graphs.{IsGraphKept};
 ghost use Rattle.asa_objects.specs.Marks.{changed};
-ghost use Rattle.asa_objects.specs.Ranks.{IsSound, has_name};
-ghost use Rattle.asa_objects.specs.Reaching.{IsReach, IsReachKept};
+ghost use Rattle.asa_objects.specs.Ranks.{IsSound};
+ghost use Rattle.asa_objects.specs.Reaching.{IsReachKept, known};
 ghost use Rattle.asa_objects.specs.Tables.{entry_of, reaches};
 
-use crate::changing::{Kept, change_by, change_members, stated_of};
+use crate::changing::{Kept, change_members, stated_of};
 use crate::climbing::above;
 use crate::drafting::{Change, Draft};
 use crate::faults::ObjectFault;
-use crate::holding::{find_reach, hold_reach};
+use crate::holding::{hold_reach, or_climbed, take_reach};
 use crate::opening::{close_name, open_name};
 use crate::ordering::OrderedItems;
-use crate::reaching::{Reach, is_apart};
+use crate::reaching::set_of_names;
+use crate::resumming::change_summed;
 use crate::stating::{inner_lines, missing_column, take_lines};
-use crate::using::set_of;
 use crate::valuing::Stated;
 use asa_base::Name;
 use asa_members::{BlockKind, Top};
-use asa_text::{Block, Shared};
+use asa_text::Block;
+use indexmap::IndexMap;
 use std::alloc::Global;
-use std::collections::{BTreeMap, BTreeSet};
+use std::collections::BTreeMap;
 
 /// Whether an object has no value after a change of its former members. A group needs none.
 fn lacks_value(block: BlockKind, former: &OrderedItems, change: &Change) -> bool
@@ -45,12 +47,12 @@ struct Drafted {
 fn read_lines(
     alloc: Global,
     values: &BTreeMap<Name, Stated>,
-    reaching: &BTreeSet<Name>,
+    reaching: &IndexMap<Name, u64>,
     block: &Block,
     top: &Top,
 ) -> Result<Drafted, ObjectFault>
     requires there { is_some (entry_of values.now.entries top.now.name) ≡ true }
-    requires reaching { (q : List ℕ) → has_name reaching.now.keys q ≡ reaches values.now.entries q top.now.name }
+    requires reaching { (q : List ℕ) → is_some (known reaching.now.entries q) ≡ reaches values.now.entries q top.now.name }
     ensures value { over.Drafteds values.now.entries block.now top.now result }
 {
     let stated = stated_of(values, &top.name);
@@ -73,12 +75,12 @@ fn read_lines(
 fn read_change(
     alloc: Global,
     values: &BTreeMap<Name, Stated>,
-    reaching: &BTreeSet<Name>,
+    reaching: &IndexMap<Name, u64>,
     block: &Block,
     top: &Top,
 ) -> Result<Change, ObjectFault>
     requires there { is_some (entry_of values.now.entries top.now.name) ≡ true }
-    requires reaching { (q : List ℕ) → has_name reaching.now.keys q ≡ reaches values.now.entries q top.now.name }
+    requires reaching { (q : List ℕ) → is_some (known reaching.now.entries q) ≡ reaches values.now.entries q top.now.name }
     ensures { over.Reads values.now.entries block.now top.now result }
 {
     let read = read_lines(alloc, values, reaching, block, top)?;
@@ -95,8 +97,8 @@ fn read_change(
     Ok(change)
 }
 
-/// Takes the block of a name that is in the table, with the names that reach it, which are climbed. After a refusal all is as
-/// before.
+/// Takes the block of a name that is in the table, where memory ran out for the ways to it, or it stands too often to be counted in
+/// one of the names that reach it. What is kept of names that reach others is dropped. After a refusal all is as before.
 fn change_climbed(
     alloc: Global,
     values: &mut BTreeMap<Name, Stated>,
@@ -107,9 +109,11 @@ fn change_climbed(
     requires sound { IsSound values.old.entries kept.old.ranks.entries kept.old.uses.entries kept.old.stamp }
     requires there { IsSomeAnd (entry_of values.old.entries top.now.name) (λ e. e.block ≡ top.now.block) }
     requires reach { IsReachKept values.old.entries kept.old.ranks.entries kept.old.reach.items }
+    requires graph { IsGraphKept values.old.entries kept.old.ranks.entries kept.old.graph.items }
     ensures sound { IsSound values.new.entries kept.new.ranks.entries kept.new.uses.entries kept.new.stamp }
     ensures answer { spec.Defines result values.old.entries values.new.entries (spec.changed_by values.old.entries block.now top.now) }
     ensures reach { IsReachKept values.new.entries kept.new.ranks.entries kept.new.reach.items }
+    ensures graph { IsGraphKept values.new.entries kept.new.ranks.entries kept.new.graph.items }
 {
     let names = above(
         alloc,
@@ -119,42 +123,16 @@ fn change_climbed(
         kept.stamp,
         &top.name,
     )?;
-    let reaching = set_of(alloc, names.as_slice())?;
+    let reaching = set_of_names(alloc, names.as_slice())?;
     let change = read_change(alloc, values, &reaching, block, top)?;
-    change_members(alloc, values, kept, &top.name, &change, names.as_slice())?;
-    if is_apart(kept.reach.as_slice(), names.as_slice(), &change.added) {
-        return Ok(());
-    }
+    change_summed(alloc, values, kept, &top.name, &change, names.as_slice())?;
     kept.reach.clear();
+    kept.graph.clear();
     Ok(())
 }
 
-/// Takes the block of a name that is in the table, with the names that reach it, which then are kept. After a refusal all is as
-/// before.
-fn change_reached(
-    alloc: Global,
-    values: &mut BTreeMap<Name, Stated>,
-    kept: &mut Kept,
-    reach: Shared<Reach>,
-    block: &Block,
-    top: &Top,
-) -> Result<(), ObjectFault>
-    requires sound { IsSound values.old.entries kept.old.ranks.entries kept.old.uses.entries kept.old.stamp }
-    requires there { IsSomeAnd (entry_of values.old.entries top.now.name) (λ e. e.block ≡ top.now.block) }
-    requires reach { IsReach values.old.entries kept.old.ranks.entries reach }
-    requires name { reach.name ≡ top.now.name }
-    requires kept { IsReachKept values.old.entries kept.old.ranks.entries kept.old.reach.items }
-    ensures sound { IsSound values.new.entries kept.new.ranks.entries kept.new.uses.entries kept.new.stamp }
-    ensures answer { spec.Defines result values.old.entries values.new.entries (spec.changed_by values.old.entries block.now top.now) }
-    ensures kept { IsReachKept values.new.entries kept.new.ranks.entries kept.new.reach.items }
-{
-    let change = read_change(alloc, values, &reach.get().set, block, top)?;
-    change_by(alloc, values, kept, reach.get(), &change)?;
-    hold_reach(&mut kept.reach, reach);
-    Ok(())
-}
-
-/// Takes the block of a name that is in the table. After a refusal all is as before.
+/// Takes the block of a name that is in the table. The names that reach it are kept then, where others than itself do. After a
+/// refusal all is as before.
 pub(crate) fn change_value(
     alloc: Global,
     values: &mut BTreeMap<Name, Stated>,
@@ -165,14 +143,20 @@ pub(crate) fn change_value(
     requires sound { IsSound values.old.entries kept.old.ranks.entries kept.old.uses.entries kept.old.stamp }
     requires there { IsSomeAnd (entry_of values.old.entries top.now.name) (λ e. e.block ≡ top.now.block) }
     requires reach { IsReachKept values.old.entries kept.old.ranks.entries kept.old.reach.items }
+    requires graph { IsGraphKept values.old.entries kept.old.ranks.entries kept.old.graph.items }
     ensures sound { IsSound values.new.entries kept.new.ranks.entries kept.new.uses.entries kept.new.stamp }
     ensures answer { spec.Defines result values.old.entries values.new.entries (spec.changed_by values.old.entries block.now top.now) }
     ensures reach { IsReachKept values.new.entries kept.new.ranks.entries kept.new.reach.items }
+    ensures graph { IsGraphKept values.new.entries kept.new.ranks.entries kept.new.graph.items }
 {
-    match find_reach(alloc, values, kept, &top.name)? {
-        Some(reach) => change_reached(alloc, values, kept, reach, block, top),
-        None => change_climbed(alloc, values, kept, block, top),
-    }
+    let known = take_reach(&mut kept.reach, &top.name);
+    let Some(reach) = or_climbed(alloc, values, kept, &top.name, known) else {
+        return change_climbed(alloc, values, kept, block, top);
+    };
+    let change = read_change(alloc, values, &reach.counts, block, top)?;
+    change_members(alloc, values, kept, &reach, &change)?;
+    hold_reach(&mut kept.reach, reach);
+    Ok(())
 }
 
 /// Takes the block of a name that isn't in the table. After a refusal all is as before.
@@ -186,9 +170,11 @@ fn define_new(
     requires sound { IsSound values.old.entries kept.old.ranks.entries kept.old.uses.entries kept.old.stamp }
     requires absent { entry_of values.old.entries top.now.name ≡ None }
     requires reach { IsReachKept values.old.entries kept.old.ranks.entries kept.old.reach.items }
+    requires graph { IsGraphKept values.old.entries kept.old.ranks.entries kept.old.graph.items }
     ensures sound { IsSound values.new.entries kept.new.ranks.entries kept.new.uses.entries kept.new.stamp }
     ensures answer { spec.Defines result values.old.entries values.new.entries (spec.changed_by (spec.begun values.old.entries top.now) block.now top.now) }
     ensures reach { IsReachKept values.new.entries kept.new.ranks.entries kept.new.reach.items }
+    ensures graph { IsGraphKept values.new.entries kept.new.ranks.entries kept.new.graph.items }
 {
     open_name(alloc, values, kept, &top.name, top.block)?;
     let result = change_value(alloc, values, kept, block, top);
@@ -211,9 +197,11 @@ pub(crate) fn define_top(
 ) -> Result<(), ObjectFault>
     requires sound { IsSound values.old.entries kept.old.ranks.entries kept.old.uses.entries kept.old.stamp }
     requires reach { IsReachKept values.old.entries kept.old.ranks.entries kept.old.reach.items }
+    requires graph { IsGraphKept values.old.entries kept.old.ranks.entries kept.old.graph.items }
     ensures sound { IsSound values.new.entries kept.new.ranks.entries kept.new.uses.entries kept.new.stamp }
     ensures answer { spec.Defines result values.old.entries values.new.entries (spec.defined_by values.old.entries block.now top.now) }
     ensures reach { IsReachKept values.new.entries kept.new.ranks.entries kept.new.reach.items }
+    ensures graph { IsGraphKept values.new.entries kept.new.ranks.entries kept.new.graph.items }
 {
     let Some(stated) = values.get(&top.name) else {
         return define_new(alloc, values, kept, block, top);

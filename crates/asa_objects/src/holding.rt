@@ -1,16 +1,21 @@
 //! The names that reach names, as far as they are kept.
-ghost use Rattle.std.specs.Prelude.{◌≡◌, List, true, is_some, Some, IfOk, IfSome};
-ghost use Rattle.std.specs.List.{list_any};
+ghost use Rattle.std.specs.Prelude.{◌≡◌, ℕ, List, true, not, ◌||◌, ◌-◌, false, length, is_some, slice_get, position, IfOk, IfSome, IfNone, OnOk};
+ghost use Rattle.std.specs.List.{filter, list_any};
+ghost use Rattle.std.specs.Map.{keys_of};
+ghost use Rattle.std.specs.Option.{option_copied};
+ghost use Rattle.asa_objects.specs.Graphs.{IsGraph, IsGraphKept};
 ghost use Rattle.asa_objects.specs.Ranks.{IsSound, Ranks};
-ghost use Rattle.asa_objects.specs.Reaching.{IsReach, IsReachKept};
+ghost use Rattle.asa_objects.specs.Reaching.{IsReach, IsReachKept, IsReachWithout, known};
 ghost use Rattle.asa_objects.specs.Tables.{Table, entry_of, same_name};
 
 use crate::changing::Kept;
-use crate::reaching::{Reach, reach_of};
+use crate::graphing::graph_of;
+use crate::ranking::Rank;
+use crate::reaching::{Reach, lone_reach, reach_of};
 use crate::totaling::is_same;
 use crate::valuing::Stated;
 use asa_base::Name;
-use asa_text::Shared;
+use indexmap::IndexMap;
 use std::alloc::{AllocError, Global};
 use std::collections::BTreeMap;
 
@@ -19,87 +24,116 @@ const MOST_KEPT: usize = 64;
 
 /// Whether these are the names that reach this one.
 fn is_reach_of(reach: &Reach, name: &Name) -> bool
-    ensures { result ≡ true → reach.now.name ≡ name.now }
+    ensures { result ≡ same_name reach.now.name name.now }
 {
     is_same(&reach.name, name)
 }
 
-/// What is kept of the names that reach a name, where something is.
-fn find_in<'a>(kept: &'a [Shared<Reach>], name: &Name) -> Option<&'a Shared<Reach>>
-    ensures right { (t : Table) (ranks : Ranks) → IsReachKept t ranks kept.now → IfSome result (λ r. IsReach t ranks r.now) }
-    ensures name { IfSome result (λ r. r.now.name ≡ name.now) }
+/// At which place it is kept which names reach a name.
+fn place_in(kept: &[Reach], name: &Name) -> Option<usize>
+    ensures { result ≡ position (λ r. same_name r.name name.now) kept.now }
 {
-    match kept {
-        [] => None,
-        [reach, rest @ ..] => {
-            if is_reach_of(reach.get(), name) {
-                return Some(reach);
-            }
-            find_in(rest, name)
-        }
-    }
+    kept.iter().position(|reach| is_reach_of(reach, name))
 }
 
-/// What is kept of the names that reach a name, where something is.
-pub(crate) fn kept_reach(kept: &Kept, name: &Name) -> Result<Option<Shared<Reach>>, AllocError>
-    ensures right { IfOk result (λ o. (t : Table) (ranks : Ranks) → IsReachKept t ranks kept.now.reach.items → IfSome o (λ r. IsReach t ranks r)) }
-    ensures name { IfOk result (λ o. IfSome o (λ r. r.name ≡ name.now)) }
+/// Takes out what is kept of the names that reach a name, where something is.
+pub(crate) fn take_reach(kept: &mut Vec<Reach>, name: &Name) -> Option<Reach>
+    ensures right { (t : Table) (ranks : Ranks) → IsReachKept t ranks kept.old.items → IfSome result (λ r. IsReach t ranks r) }
+    ensures name { IfSome result (λ r. r.name ≡ name.now) }
+    ensures none { IfNone result (list_any (λ r. same_name r.name name.now) kept.old.items ≡ false) }
+    ensures rest { (t : Table) (ranks : Ranks) → IsReachKept t ranks kept.old.items → IsReachKept t ranks kept.new.items }
 {
-    let Some(found) = find_in(kept.reach.as_slice(), name) else {
-        return Ok(None);
-    };
-    let reach = found.share()?;
-    Ok(Some(reach))
+    let place = place_in(kept.as_slice(), name)?;
+    Some(kept.swap_remove(place))
 }
 
-/// The names that reach a name: nothing where it has no users, or where memory runs out.
-fn next_reach(
+/// Finds the steps from each place, unless they are known.
+fn know_graph(
     alloc: Global,
     values: &BTreeMap<Name, Stated>,
-    kept: &Kept,
+    kept: &mut Kept,
+) -> Result<(), AllocError>
+    requires sound { IsSound values.now.entries kept.old.ranks.entries kept.old.uses.entries kept.old.stamp }
+    requires graph { IsGraphKept values.now.entries kept.old.ranks.entries kept.old.graph.items }
+    ensures ok { OnOk result (IsGraph values.now.entries kept.new.ranks.entries kept.new.graph.items) }
+    ensures graph { IsGraphKept values.now.entries kept.new.ranks.entries kept.new.graph.items }
+    ensures ranks { kept.new.ranks.entries ≡ kept.old.ranks.entries }
+    ensures uses { kept.new.uses.entries ≡ kept.old.uses.entries }
+    ensures stamp { kept.new.stamp ≡ kept.old.stamp }
+    ensures reach { kept.new.reach.items ≡ kept.old.reach.items }
+{
+    if kept.graph.len() == kept.ranks.len() {
+        return Ok(());
+    }
+    let graph = graph_of(alloc, values, &kept.ranks, &kept.uses, kept.stamp)?;
+    kept.graph = graph;
+    Ok(())
+}
+
+/// The names that reach a name that is there, climbed by the steps from each place.
+fn climbed(
+    alloc: Global,
+    values: &BTreeMap<Name, Stated>,
+    kept: &mut Kept,
     name: &Name,
-) -> Option<Shared<Reach>>
-    requires sound { IsSound values.now.entries kept.now.ranks.entries kept.now.uses.entries kept.now.stamp }
+) -> Result<Reach, AllocError>
+    requires sound { IsSound values.now.entries kept.old.ranks.entries kept.old.uses.entries kept.old.stamp }
+    requires graph { IsGraphKept values.now.entries kept.old.ranks.entries kept.old.graph.items }
     requires there { is_some (entry_of values.now.entries name.now) ≡ true }
-    ensures right { IfSome result (λ r. IsReach values.now.entries kept.now.ranks.entries r) }
-    ensures name { IfSome result (λ r. r.name ≡ name.now) }
+    ensures right { IfOk result (λ r. IsReach values.now.entries kept.new.ranks.entries r) }
+    ensures name { IfOk result (λ r. r.name ≡ name.now) }
+    ensures graph { IsGraphKept values.now.entries kept.new.ranks.entries kept.new.graph.items }
+    ensures ranks { kept.new.ranks.entries ≡ kept.old.ranks.entries }
+    ensures uses { kept.new.uses.entries ≡ kept.old.uses.entries }
+    ensures stamp { kept.new.stamp ≡ kept.old.stamp }
+    ensures reach { kept.new.reach.items ≡ kept.old.reach.items }
 {
     if !kept.uses.contains_key(name) {
-        return None;
+        return lone_reach(alloc, values, &kept.ranks, &kept.uses, kept.stamp, name);
     }
-    let reach = reach_of(alloc, values, &kept.ranks, &kept.uses, kept.stamp, name).ok()?;
-    Shared::new(alloc, reach).ok()
+    know_graph(alloc, values, kept)?;
+    let graph = kept.graph.as_slice();
+    reach_of(
+        alloc,
+        values,
+        &kept.ranks,
+        &kept.uses,
+        kept.stamp,
+        graph,
+        name,
+    )
 }
 
-/// The names that reach a name, kept or climbed: nothing where it has no users, or where memory runs out for them.
-pub(crate) fn find_reach(
+/// The names that reach a name that is there: the known ones, or else they are climbed. None where memory runs out, or where the
+/// name stands too often in one of them to be counted.
+pub(crate) fn or_climbed(
     alloc: Global,
     values: &BTreeMap<Name, Stated>,
-    kept: &Kept,
+    kept: &mut Kept,
     name: &Name,
-) -> Result<Option<Shared<Reach>>, AllocError>
-    requires sound { IsSound values.now.entries kept.now.ranks.entries kept.now.uses.entries kept.now.stamp }
+    known: Option<Reach>,
+) -> Option<Reach>
+    requires sound { IsSound values.now.entries kept.old.ranks.entries kept.old.uses.entries kept.old.stamp }
+    requires graph { IsGraphKept values.now.entries kept.old.ranks.entries kept.old.graph.items }
     requires there { is_some (entry_of values.now.entries name.now) ≡ true }
-    requires kept { IsReachKept values.now.entries kept.now.ranks.entries kept.now.reach.items }
-    ensures right { IfOk result (λ o. IfSome o (λ r. IsReach values.now.entries kept.now.ranks.entries r)) }
-    ensures name { IfOk result (λ o. IfSome o (λ r. r.name ≡ name.now)) }
+    requires known { IfSome known (λ r. IsReach values.now.entries kept.old.ranks.entries r) }
+    requires name { IfSome known (λ r. r.name ≡ name.now) }
+    ensures right { IfSome result (λ r. IsReach values.now.entries kept.new.ranks.entries r) }
+    ensures name { IfSome result (λ r. r.name ≡ name.now) }
+    ensures graph { IsGraphKept values.now.entries kept.new.ranks.entries kept.new.graph.items }
+    ensures ranks { kept.new.ranks.entries ≡ kept.old.ranks.entries }
+    ensures uses { kept.new.uses.entries ≡ kept.old.uses.entries }
+    ensures stamp { kept.new.stamp ≡ kept.old.stamp }
+    ensures reach { kept.new.reach.items ≡ kept.old.reach.items }
 {
-    let known = kept_reach(kept, name)?;
-    if known.is_some() {
-        return Ok(known);
+    match known {
+        Some(reach) => Some(reach),
+        None => climbed(alloc, values, kept, name).ok(),
     }
-    Ok(next_reach(alloc, values, kept, name))
-}
-
-/// Whether it is kept which names reach a name.
-fn is_held(kept: &[Shared<Reach>], name: &Name) -> bool
-    ensures { result ≡ list_any (λ r. same_name r.name name.now) kept.now }
-{
-    kept.iter().any(|reach| is_same(&reach.get().name, name))
 }
 
 /// Drops all that is kept where there is no room for more.
-fn make_room(kept: &mut Vec<Shared<Reach>>)
+fn make_room(kept: &mut Vec<Reach>)
     ensures { (t : Table) (ranks : Ranks) → IsReachKept t ranks kept.old.items → IsReachKept t ranks kept.new.items }
 {
     if kept.len() < MOST_KEPT {
@@ -109,7 +143,7 @@ fn make_room(kept: &mut Vec<Shared<Reach>>)
 }
 
 /// Adds to what is kept, where memory allows.
-fn push_reach(kept: &mut Vec<Shared<Reach>>, reach: Shared<Reach>)
+pub(crate) fn push_reach(kept: &mut Vec<Reach>, reach: Reach)
     ensures { (t : Table) (ranks : Ranks) → IsReachKept t ranks kept.old.items → IsReach t ranks reach → IsReachKept t ranks kept.new.items }
 {
     if let Err(full) = kept.push(reach) {
@@ -117,13 +151,49 @@ fn push_reach(kept: &mut Vec<Shared<Reach>>, reach: Shared<Reach>)
     }
 }
 
-/// Keeps the names that reach a name, unless they are kept already.
-pub(crate) fn hold_reach(kept: &mut Vec<Shared<Reach>>, reach: Shared<Reach>)
+/// Keeps the names that reach a name, where others than itself do.
+pub(crate) fn hold_reach(kept: &mut Vec<Reach>, reach: Reach)
     ensures { (t : Table) (ranks : Ranks) → IsReachKept t ranks kept.old.items → IsReach t ranks reach → IsReachKept t ranks kept.new.items }
 {
-    if is_held(kept.as_slice(), &reach.get().name) {
+    if reach.ways.len() < 2 {
         return;
     }
     make_room(kept);
     push_reach(kept, reach);
+}
+
+/// Whether none of two names is among those that reach a name.
+fn is_without(reach: &Reach, name: &Name, other: &Name) -> bool
+    ensures { result ≡ not (is_some (known reach.now.counts.entries name.now) || is_some (known reach.now.counts.entries other.now)) }
+{
+    !(reach.counts.contains_key(name) || reach.counts.contains_key(other))
+}
+
+/// Drops what is kept of names that one of two names reaches.
+fn keep_without(kept: &mut Vec<Reach>, name: &Name, other: &Name)
+    ensures { kept.new.items ≡ filter (λ r. not (is_some (known r.counts.entries name.now) || is_some (known r.counts.entries other.now))) kept.old.items }
+{
+    kept.retain(|reach| is_without(reach, name, other));
+}
+
+/// The last name in the order of the table of ranks.
+fn last_of(ranks: &IndexMap<Name, Rank>) -> Option<&Name>
+    ensures { option_copied result ≡ slice_get (keys_of ranks.now.entries) (length ranks.now.entries - 1) }
+{
+    let (name, _) = ranks.last()?;
+    Some(name)
+}
+
+/// Before a name goes, whose place the last one takes: drops what is kept of the names that one of the two reaches.
+pub(crate) fn forget_reach(kept: &mut Kept, name: &Name)
+    ensures ranks { kept.new.ranks.entries ≡ kept.old.ranks.entries }
+    ensures uses { kept.new.uses.entries ≡ kept.old.uses.entries }
+    ensures stamp { kept.new.stamp ≡ kept.old.stamp }
+    ensures graph { kept.new.graph.items ≡ kept.old.graph.items }
+    ensures reach { (t : Table) → IsReachKept t kept.old.ranks.entries kept.old.reach.items → IsReachWithout t kept.new.ranks.entries name.now kept.new.reach.items }
+{
+    match last_of(&kept.ranks) {
+        Some(last) => keep_without(&mut kept.reach, name, last),
+        None => kept.reach.clear(),
+    }
 }

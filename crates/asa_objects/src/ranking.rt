@@ -160,6 +160,8 @@ pub(crate) fn totals_of(ranks: &IndexMap<Name, Rank>, name: &Name) -> Totals
 pub(crate) fn place_of(ranks: &IndexMap<Name, Rank>, name: &Name) -> Option<usize>
     ensures place { IfSome result (λ i. slice_get (keys_of ranks.now.entries) i ≡ Some name.now) }
     ensures found { is_some result ≡ is_some (spec.rank_of ranks.now.entries name.now) }
+    ensures only { (p : ℕ) → slice_get (keys_of ranks.now.entries) p ≡ Some name.now → result ≡ Some p }
+    ensures once { (p q : ℕ) (other : List ℕ) → slice_get (keys_of ranks.now.entries) p ≡ Some other → slice_get (keys_of ranks.now.entries) q ≡ Some other → p ≡ q }
 {
     ranks.get_index_of(name)
 }

@@ -1,25 +1,16 @@
 //! The names that reach a name, with how often it stands in each: while it changes again and again, they are neither climbed nor
 //! summed anew.
-ghost use Rattle.std.specs.Prelude.{◌≡◌, ℕ, ◌+◌, ◌*◌, List, Some, slice_get, true, is_some, cond, IfOk, OnOk};
-ghost use Rattle.std.specs.Cmp.Lexicographic.{slice_cmp};
-ghost use Rattle.std.specs.List.{AllByRecursion, list_any};
-ghost use Rattle.std.specs.List.Sorted.{IsStrictlySortedBy};
+ghost use Rattle.std.specs.Prelude.{◌≡◌, ℕ, List, [], Some, slice_get, true, is_some, cond, IfOk, OnOk};
 ghost use Rattle.std.specs.Map.{keys_of};
-ghost use Rattle.std.specs.Ordering.{nat_cmp};
-ghost use Rattle.asa_objects.specs.Climbing.{IsAbove};
+ghost use Rattle.asa_objects.specs.Graphs.{IsGraph};
 ghost use Rattle.asa_objects.specs.Ranks.{IsSound, has_name, rank_of, users_of};
 ghost use Rattle.asa_objects.specs.Reaching as spec;
-ghost use Rattle.asa_objects.specs.Tables.{items_of, named, same_name};
-ghost use Rattle.asa_objects.specs.Totalling.{times, times_among};
+ghost use Rattle.asa_objects.specs.Tables.{same_name};
 
-use crate::climbing::above;
-use crate::ordering::OrderedItems;
 use crate::ranking::{Rank, place_of};
-use crate::totaling::times_at;
-use crate::using::set_of;
-use crate::valuing::{Stated, name_in};
+use crate::stepping::{Steps, climb};
+use crate::valuing::Stated;
 use asa_base::Name;
-use asa_members::Item;
 use asa_text::{Items, Shared};
 use indexmap::IndexMap;
 use std::alloc::{AllocError, Global};
@@ -33,7 +24,7 @@ pub(crate) struct Way {
     pub(crate) times: u64,
 }
 
-/// The names that reach a name, itself first, in the order of their labels.
+/// The names that reach a name, each after those of them that it refers to.
 #[derive(Debug, Drop)]
 pub(crate) struct Reach {
     /// The name that they reach.
@@ -42,81 +33,8 @@ pub(crate) struct Reach {
     pub(crate) ways: Vec<Way>,
     /// Their names.
     pub(crate) names: Shared<Items<Name>>,
-    /// The same for look-ups.
-    pub(crate) set: BTreeSet<Name>,
-}
-
-/// How often a name was counted; not at all where it wasn't.
-fn count_of(counts: &BTreeMap<Name, u64>, name: &Name) -> u64
-    ensures { result ≡ spec.count_of counts.now.entries name.now }
-{
-    match counts.get(name) {
-        Some(count) => *count,
-        None => 0,
-    }
-}
-
-/// Adds to the count of a name.
-fn add_count(counts: &mut BTreeMap<Name, u64>, name: &Name, more: u64) -> Result<(), AllocError>
-    ensures { OnOk result ((q : List ℕ) → spec.count_of counts.new.entries q ≡ spec.count_of counts.old.entries q + cond (same_name name.now q) more 0) }
-{
-    let Some(count) = count_of(counts, name).checked_add(more) else {
-        return Err(AllocError);
-    };
-    counts.insert(name.copy(), count)?;
-    Ok(())
-}
-
-/// Counts a name, which stands there so often, at one that refers to it.
-fn count_for(
-    values: &BTreeMap<Name, Stated>,
-    counts: &mut BTreeMap<Name, u64>,
-    name: &Name,
-    count: u64,
-    user: &Name,
-) -> Result<(), AllocError>
-    ensures { OnOk result ((q : List ℕ) → spec.count_of counts.new.entries q ≡ spec.count_of counts.old.entries q + cond (same_name user.now q) (times name.now (items_of values.now.entries q)) 0 * count) }
-{
-    match times_at(values, user, name).checked_mul(count) {
-        Some(more) => add_count(counts, user, more),
-        None => Err(AllocError),
-    }
-}
-
-/// Counts a name, which stands there so often, at each of those that refer to it.
-fn count_for_all(
-    values: &BTreeMap<Name, Stated>,
-    counts: &mut BTreeMap<Name, u64>,
-    name: &Name,
-    count: u64,
-    users: &BTreeSet<Name>,
-) -> Result<(), AllocError>
-    ensures ok { OnOk result ((q : List ℕ) → spec.count_of counts.new.entries q ≡ spec.count_of counts.old.entries q + times_among values.now.entries name.now users.now.keys q * count) }
-    ensures ordered { IsStrictlySortedBy (slice_cmp nat_cmp) users.now.keys }
-{
-    for user in users {
-        count_for(values, counts, name, count, user)?;
-    }
-    Ok(())
-}
-
-/// Counts a name, which stands there so often, at each name that refers to it.
-fn count_for_users(
-    values: &BTreeMap<Name, Stated>,
-    ranks: &IndexMap<Name, Rank>,
-    uses: &BTreeMap<Name, BTreeSet<Name>>,
-    stamp: u64,
-    counts: &mut BTreeMap<Name, u64>,
-    name: &Name,
-    count: u64,
-) -> Result<(), AllocError>
-    requires { IsSound values.now.entries ranks.now.entries uses.now.entries stamp }
-    ensures { OnOk result ((q : List ℕ) → spec.count_of counts.new.entries q ≡ spec.count_of counts.old.entries q + times name.now (items_of values.now.entries q) * count) }
-{
-    match uses.get(name) {
-        Some(users) => count_for_all(values, counts, name, count, users),
-        None => Ok(()),
-    }
+    /// How often the name stands in each of them, for look-ups.
+    pub(crate) counts: IndexMap<Name, u64>,
 }
 
 /// The place of the rank of a name that has one.
@@ -130,36 +48,70 @@ fn place_at(ranks: &IndexMap<Name, Rank>, name: &Name) -> usize
     }
 }
 
-/// The ways by which these names lead to the name that they reach. A number that would pass its type's end counts as want of
-/// memory.
-fn ways_of(
-    alloc: Global,
-    values: &BTreeMap<Name, Stated>,
-    ranks: &IndexMap<Name, Rank>,
-    uses: &BTreeMap<Name, BTreeSet<Name>>,
-    stamp: u64,
+/// Puts a number at a name.
+pub(crate) fn put_count(
+    counts: &mut IndexMap<Name, u64>,
     name: &Name,
-    names: &[Name],
-) -> Result<Vec<Way>, AllocError>
-    requires sound { IsSound values.now.entries ranks.now.entries uses.now.entries stamp }
-    requires above { IsAbove values.now.entries ranks.now.entries name.now names.now }
-    ensures names { IfOk result (λ v. spec.names_in v.items ≡ names.now) }
-    ensures placed { IfOk result (λ v. AllByRecursion (spec.IsPlaced ranks.now.entries) v.items) }
-    ensures times { IfOk result (λ v. spec.AreTimes values.now.entries name.now v.items) }
+    number: u64,
+) -> Result<(), AllocError>
+    ensures { OnOk result ((q : List ℕ) → spec.known counts.new.entries q ≡ cond (same_name name.now q) (Some number) (spec.known counts.old.entries q)) }
 {
-    let mut counts = BTreeMap::new(alloc);
-    counts.insert(name.copy(), 1)?;
-    let mut ways = Vec::with_capacity(alloc, names.len())?;
-    for user in names {
-        let times = count_of(&counts, user);
-        count_for_users(values, ranks, uses, stamp, &mut counts, user, times)?;
-        ways.push(Way {
-            name: user.copy(),
-            place: place_at(ranks, user),
-            times,
-        })?;
+    match counts.insert(name.copy(), number) {
+        Ok(_) => Ok(()),
+        Err(_) => Err(AllocError),
     }
-    Ok(ways)
+}
+
+/// These names, for look-ups.
+pub(crate) fn set_of_names(alloc: Global, names: &[Name]) -> Result<IndexMap<Name, u64>, AllocError>
+    ensures { IfOk result (λ m. (q : List ℕ) → is_some (spec.known m.entries q) ≡ has_name names.now q) }
+{
+    let mut set = IndexMap::new(alloc);
+    for name in names {
+        put_count(&mut set, name, 0)?;
+    }
+    Ok(set)
+}
+
+/// How often the name at the end of ways, which lead from one name each, stands in each of these, for look-ups.
+fn counts_of(alloc: Global, ways: &[Way]) -> Result<IndexMap<Name, u64>, AllocError>
+    requires { spec.AreApart (spec.names_in ways.now) }
+    ensures { IfOk result (λ m. (q : List ℕ) → spec.known m.entries q ≡ spec.found_in ways.now q) }
+{
+    let mut counts = IndexMap::new(alloc);
+    for way in ways {
+        put_count(&mut counts, &way.name, way.times)?;
+    }
+    Ok(counts)
+}
+
+/// The names that ways lead from.
+pub(crate) fn names_of(alloc: Global, ways: &[Way]) -> Result<Shared<Items<Name>>, AllocError>
+    ensures { IfOk result (λ s. s ≡ spec.names_in ways.now) }
+{
+    let mut names = Vec::with_capacity(alloc, ways.len())?;
+    for way in ways {
+        names.push(way.name.copy())?;
+    }
+    Shared::new(alloc, Items::from(names))
+}
+
+/// What is kept of the names that reach a name, by their ways.
+fn reach_by(alloc: Global, name: &Name, ways: Vec<Way>) -> Result<Reach, AllocError>
+    requires { spec.AreApart (spec.names_in ways.items) }
+    ensures name { IfOk result (λ r. r.name ≡ name.now) }
+    ensures ways { IfOk result (λ r. r.ways.items ≡ ways.items) }
+    ensures names { IfOk result (λ r. r.names ≡ spec.names_in ways.items) }
+    ensures counts { IfOk result (λ r. (q : List ℕ) → spec.known r.counts.entries q ≡ spec.found_in ways.items q) }
+{
+    let counts = counts_of(alloc, ways.as_slice())?;
+    let names = names_of(alloc, ways.as_slice())?;
+    Ok(Reach {
+        name: name.copy(),
+        ways,
+        names,
+        counts,
+    })
 }
 
 /// The names that reach a name that is there, with their ways.
@@ -169,78 +121,40 @@ pub(crate) fn reach_of(
     ranks: &IndexMap<Name, Rank>,
     uses: &BTreeMap<Name, BTreeSet<Name>>,
     stamp: u64,
+    graph: &[Steps],
     name: &Name,
 ) -> Result<Reach, AllocError>
     requires sound { IsSound values.now.entries ranks.now.entries uses.now.entries stamp }
+    requires graph { IsGraph values.now.entries ranks.now.entries graph.now }
     requires there { is_some (rank_of ranks.now.entries name.now) ≡ true }
     ensures value { IfOk result (λ r. spec.IsReach values.now.entries ranks.now.entries r) }
     ensures name { IfOk result (λ r. r.name ≡ name.now) }
 {
-    let names = above(alloc, values, ranks, uses, stamp, name)?;
-    let ways = ways_of(alloc, values, ranks, uses, stamp, name, names.as_slice())?;
-    let set = set_of(alloc, names.as_slice())?;
-    let names = Shared::new(alloc, Items::from(names))?;
-    Ok(Reach {
+    let place = place_at(ranks, name);
+    let ways = climb(alloc, values, ranks, uses, stamp, graph, name, place)?;
+    reach_by(alloc, name, ways)
+}
+
+/// The same of a name that is there and that none refers to.
+pub(crate) fn lone_reach(
+    alloc: Global,
+    values: &BTreeMap<Name, Stated>,
+    ranks: &IndexMap<Name, Rank>,
+    uses: &BTreeMap<Name, BTreeSet<Name>>,
+    stamp: u64,
+    name: &Name,
+) -> Result<Reach, AllocError>
+    requires sound { IsSound values.now.entries ranks.now.entries uses.now.entries stamp }
+    requires there { is_some (rank_of ranks.now.entries name.now) ≡ true }
+    requires lone { users_of uses.now.entries name.now ≡ [] }
+    ensures value { IfOk result (λ r. spec.IsReach values.now.entries ranks.now.entries r) }
+    ensures name { IfOk result (λ r. r.name ≡ name.now) }
+{
+    let mut ways = Vec::new(alloc);
+    ways.push(Way {
         name: name.copy(),
-        ways,
-        names,
-        set,
-    })
-}
-
-/// Whether one of some names is among others.
-fn has_one(set: &BTreeSet<Name>, names: &[Name]) -> bool
-    ensures { result ≡ list_any (has_name set.now.keys) names.now }
-{
-    names.iter().any(|name| set.contains(name))
-}
-
-/// Whether the name that a member refers to is among these.
-fn leads_into(set: &BTreeSet<Name>, item: &Item) -> bool
-    ensures { result ≡ spec.leads_into set.now.keys (named item.now) }
-{
-    match name_in(item) {
-        Some(name) => set.contains(name),
-        None => false,
-    }
-}
-
-/// Whether a name that one of some members refers to is among these.
-fn lead_into(set: &BTreeSet<Name>, items: &OrderedItems) -> bool
-    ensures { result ≡ list_any (λ i. spec.leads_into set.now.keys (named i)) items.now }
-{
-    items.values().any(|item| leads_into(set, item))
-}
-
-/// Whether neither one of some names nor one that some members refer to is among the names that reach a name.
-fn is_outside(reach: &Reach, names: &[Name], added: &OrderedItems) -> bool
-    ensures { result ≡ true → spec.IsOutside names.now added.now reach.now }
-{
-    if has_one(&reach.set, names) {
-        return false;
-    }
-    !lead_into(&reach.set, added)
-}
-
-/// The same for the names that reach each of some names.
-fn are_outside(kept: &[Shared<Reach>], names: &[Name], added: &OrderedItems) -> bool
-    ensures { result ≡ true → spec.IsApart names.now added.now kept.now }
-{
-    match kept {
-        [] => true,
-        [reach, rest @ ..] => {
-            if !is_outside(reach.get(), names, added) {
-                return false;
-            }
-            are_outside(rest, names, added)
-        }
-    }
-}
-
-/// Whether what is kept of the names that reach others stays right where a name gets further members that only itself reaches:
-/// neither that name nor one that these members refer to may be among the kept ones.
-pub(crate) fn is_apart(kept: &[Shared<Reach>], names: &[Name], added: &OrderedItems) -> bool
-    ensures { result ≡ true → spec.IsApart names.now added.now kept.now }
-{
-    names.len() == 1 && are_outside(kept, names, added)
+        place: place_at(ranks, name),
+        times: 1,
+    })?;
+    reach_by(alloc, name, ways)
 }

@@ -1,4 +1,4 @@
-//! New labels and totals of the names that reach a name, by the ways that are kept of them.
+//! New labels and totals of the names that reach a name, by the ways from them.
 ghost use Rattle.std.specs.Prelude.{◌≡◌, ℕ, List, [], ◌∷◌, ◌++◌, length, cond, Some, IfErr, OnOk};
 ghost use Rattle.std.specs.List.{AllByRecursion};
 ghost use Rattle.std.specs.Map.{keys_of};
@@ -107,36 +107,5 @@ pub(crate) fn set_by(ranks: &mut IndexMap<Name, Rank>, ways: &[Way], new: &[Rank
 {
     for (way, rank) in ways.iter().zip(new) {
         set_at(ranks, way, *rank);
-    }
-}
-
-/// Puts other totals at the name of a way, which keeps its label.
-fn retotal_at(ranks: &mut IndexMap<Name, Rank>, way: &Way, totals: Totals)
-    requires { spec.IsPlaced ranks.old.entries way.now }
-    ensures value { (q : List ℕ) → rank_of ranks.new.entries q ≡ cond (same_name way.now.name q) (spec.retotaled (Some (record { label = 0; totals = totals })) (rank_of ranks.old.entries q)) (rank_of ranks.old.entries q) }
-    ensures keys { keys_of ranks.new.entries ≡ keys_of ranks.old.entries }
-{
-    if let Some(rank) = rank_at(ranks, way.place) {
-        set_rank_at(
-            ranks,
-            way.place,
-            Rank {
-                label: rank.label,
-                totals,
-            },
-        );
-    }
-}
-
-/// Puts the totals of new ranks at the names of ways, which keep their labels.
-pub(crate) fn retotal_by(ranks: &mut IndexMap<Name, Rank>, ways: &[Way], new: &[Rank])
-    requires placed { AllByRecursion (spec.IsPlaced ranks.old.entries) ways.now }
-    requires apart { spec.AreApart (spec.names_in ways.now) }
-    requires each { length new.now ≡ length ways.now }
-    ensures keys { keys_of ranks.new.entries ≡ keys_of ranks.old.entries }
-    ensures value { (q : List ℕ) → rank_of ranks.new.entries q ≡ spec.retotaled (rank_of (spec.ranks_by ways.now new.now) q) (rank_of ranks.old.entries q) }
-{
-    for (way, rank) in ways.iter().zip(new) {
-        retotal_at(ranks, way, rank.totals);
     }
 }

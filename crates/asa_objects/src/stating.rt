@@ -1,11 +1,11 @@
 //! The lines of a block: what each makes of the members of its name.
-ghost use Rattle.std.specs.Prelude.{◌≡◌, ℕ, ◌+◌, ◌^◌, ◌-◌, ◌<◌, List, length};
+ghost use Rattle.std.specs.Prelude.{◌≡◌, ℕ, ◌+◌, ◌^◌, ◌-◌, ◌<◌, List, length, is_some};
 ghost use Rattle.asa_text.specs.Words.{line_left};
 ghost use Rattle.asa_members.specs.Groups.{statement_at};
 ghost use Rattle.asa_members.specs.Tops.{top_at};
 ghost use Rattle.asa_objects.specs.Defining as spec;
 ghost use Rattle.asa_objects.specs.Marks.{marked};
-ghost use Rattle.asa_objects.specs.Ranks.{has_name};
+ghost use Rattle.asa_objects.specs.Reaching.{known};
 ghost use Rattle.asa_objects.specs.Tables.{known_of, reaches};
 
 use crate::drafting::{Draft, item_of_value};
@@ -15,8 +15,9 @@ use crate::valuing::{Stated, name_in};
 use asa_base::Name;
 use asa_members::{BlockKind, Item, Statement, Top, read_statement, read_top};
 use asa_text::{Block, Line, LineFault, Words};
+use indexmap::IndexMap;
 use std::alloc::Global;
-use std::collections::{BTreeMap, BTreeSet};
+use std::collections::BTreeMap;
 
 /// The fault of a word in a line of a block.
 fn at_line(line: u32, fault: LineFault) -> ObjectFault
@@ -91,14 +92,14 @@ fn statement_of(
 fn leads_to(
     values: &BTreeMap<Name, Stated>,
     name: &Name,
-    reaching: &BTreeSet<Name>,
+    reaching: &IndexMap<Name, u64>,
     item: &Item,
 ) -> bool
-    requires { (q : List ℕ) → has_name reaching.now.keys q ≡ reaches values.now.entries q name.now }
+    requires { (q : List ℕ) → is_some (known reaching.now.entries q) ≡ reaches values.now.entries q name.now }
     ensures { result ≡ spec.leads_to values.now.entries name.now item.now }
 {
     match name_in(item) {
-        Some(other) => reaching.contains(other),
+        Some(other) => reaching.contains_key(other),
         None => false,
     }
 }
@@ -108,12 +109,12 @@ fn take_statement(
     alloc: Global,
     values: &BTreeMap<Name, Stated>,
     name: &Name,
-    reaching: &BTreeSet<Name>,
+    reaching: &IndexMap<Name, u64>,
     line: u32,
     draft: &mut Draft<'_>,
     statement: Statement,
 ) -> Result<(), ObjectFault>
-    requires { (q : List ℕ) → has_name reaching.now.keys q ≡ reaches values.now.entries q name.now }
+    requires { (q : List ℕ) → is_some (known reaching.now.entries q) ≡ reaches values.now.entries q name.now }
     ensures members { spec.Takes result (marked draft.new) (spec.stated values.now.entries name.now line (marked draft.old) statement) }
     ensures former { draft.new.former ≡ draft.old.former }
 {
@@ -147,12 +148,12 @@ fn take_line(
     values: &BTreeMap<Name, Stated>,
     name: &Name,
     block: BlockKind,
-    reaching: &BTreeSet<Name>,
+    reaching: &IndexMap<Name, u64>,
     n: u32,
     draft: &mut Draft<'_>,
     line: &Line,
 ) -> Result<(), ObjectFault>
-    requires { (q : List ℕ) → has_name reaching.now.keys q ≡ reaches values.now.entries q name.now }
+    requires { (q : List ℕ) → is_some (known reaching.now.entries q) ≡ reaches values.now.entries q name.now }
     ensures members { spec.Takes result (marked draft.new) (spec.after_line values.now.entries name.now block n (marked draft.old) line.now) }
     ensures former { draft.new.former ≡ draft.old.former }
 {
@@ -167,11 +168,11 @@ pub(crate) fn take_lines(
     values: &BTreeMap<Name, Stated>,
     name: &Name,
     block: BlockKind,
-    reaching: &BTreeSet<Name>,
+    reaching: &IndexMap<Name, u64>,
     draft: &mut Draft<'_>,
     lines: &[Line],
 ) -> Result<(), ObjectFault>
-    requires reaching { (q : List ℕ) → has_name reaching.now.keys q ≡ reaches values.now.entries q name.now }
+    requires reaching { (q : List ℕ) → is_some (known reaching.now.entries q) ≡ reaches values.now.entries q name.now }
     requires few { length lines.now + 1 < 2 ^ 32 - 1 }
     ensures members { spec.Takes result (marked draft.new) (spec.after_lines values.now.entries name.now block 2 (marked draft.old) lines.now) }
     ensures former { draft.new.former ≡ draft.old.former }

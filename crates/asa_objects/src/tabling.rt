@@ -1,18 +1,18 @@
 //! The table of objects and groups.
-ghost use Rattle.std.specs.Prelude.{◌≡◌, ℕ, ◌+◌, ◌≤◌, List, [], true, false, is_some, None, Some, length, sum_by, OnOk, OnErr, IfOk};
+ghost use Rattle.std.specs.Prelude.{◌≡◌, ℕ, ◌+◌, ◌≤◌, List, [], ◌∷◌, true, false, is_some, None, Some, length, sum_by, OnOk, OnErr, IfOk};
 ghost use Rattle.asa_objects.specs.Defining as spec;
 ghost use Rattle.asa_objects.specs.Expanding as expanding;
 ghost use Rattle.asa_objects.specs.Keeping.{ForName, KeepsOthers, KeepsRest};
-ghost use Rattle.asa_objects.specs.Ranks.{has_name};
+ghost use Rattle.asa_objects.specs.Ranks.{IsSound, has_name, rank_of};
 ghost use Rattle.asa_base.specs.Prefixes.{member_prefix_count};
 ghost use Rattle.asa_objects.specs.Tables as table;
 
 use crate::changing::{Kept, copy_values};
-use crate::climbing::reaching;
+use crate::climbing::above;
 use crate::defining::define_top;
 use crate::expanding::{ExpandFault, expand_network, expand_service, list_members, list_services};
 use crate::faults::ObjectFault;
-use crate::holding::kept_reach;
+use crate::holding::{hold_reach, or_climbed, take_reach};
 use crate::knowing::{kind_in, port_proto_in, service_range_in};
 use crate::opening::close_name;
 use crate::ranking::totals_of;
@@ -37,6 +37,7 @@ pub struct Objects {
 
 impl Model for Objects {
     ghost use Rattle.asa_objects.specs.Tables.{Table};
+    ghost use Rattle.asa_objects.specs.Graphs.{IsGraphKept};
     ghost use Rattle.asa_objects.specs.Ranks.{IsSound};
     ghost use Rattle.asa_objects.specs.Reaching.{IsReachKept};
 
@@ -44,7 +45,31 @@ impl Model for Objects {
 
     ghost view = { λ o. o.values.entries };
 
-    ghost invariant = { λ o. IsSound o.values.entries o.kept.ranks.entries o.kept.uses.entries o.kept.stamp × IsReachKept o.values.entries o.kept.ranks.entries o.kept.reach.items };
+    ghost invariant = { λ o. IsSound o.values.entries o.kept.ranks.entries o.kept.uses.entries o.kept.stamp × IsReachKept o.values.entries o.kept.ranks.entries o.kept.reach.items × IsGraphKept o.values.entries o.kept.ranks.entries o.kept.graph.items };
+}
+
+/// A name alone.
+fn only_name(alloc: Global, name: &Name) -> Result<Shared<Items<Name>>, AllocError>
+    ensures { IfOk result (λ names. names ≡ name.now ∷ []) }
+{
+    let mut names = Vec::new(alloc);
+    names.push(name.copy())?;
+    Shared::new(alloc, Items::from(names))
+}
+
+/// The names that reach a name that is there, found by the names that refer to each.
+fn above_of(
+    alloc: Global,
+    values: &BTreeMap<Name, Stated>,
+    kept: &Kept,
+    name: &Name,
+) -> Result<Shared<Items<Name>>, AllocError>
+    requires sound { IsSound values.now.entries kept.now.ranks.entries kept.now.uses.entries kept.now.stamp }
+    requires there { is_some (rank_of kept.now.ranks.entries name.now) ≡ true }
+    ensures { IfOk result (λ names. (q : List ℕ) → has_name names q ≡ table.reaches values.now.entries q name.now) }
+{
+    let names = above(alloc, values, &kept.ranks, &kept.uses, kept.stamp, name)?;
+    Shared::new(alloc, Items::from(names))
 }
 
 impl Objects {
@@ -59,6 +84,7 @@ impl Objects {
                 uses: BTreeMap::new(alloc),
                 stamp: 1,
                 reach: Vec::new(alloc),
+                graph: Vec::new(alloc),
             },
             alloc,
         }
@@ -179,24 +205,28 @@ impl Objects {
 
     /// The names that reach what a block defines: itself, the groups that name it, those that name these, and so on; none
     /// where the block's first line can't be read.
-    pub fn reaching(&self, alloc: Global, block: &Block) -> Result<Shared<Items<Name>>, AllocError>
-        ensures { IfOk result (λ names. ForName block.now (λ name. (q : List ℕ) → has_name names q ≡ table.reaches self.now q name)) }
+    pub fn reaching(
+        &mut self,
+        alloc: Global,
+        block: &Block,
+    ) -> Result<Shared<Items<Name>>, AllocError>
+        ensures value { IfOk result (λ names. ForName block.now (λ name. (q : List ℕ) → has_name names q ≡ table.reaches self.old q name)) }
+        ensures same { self.new ≡ self.old }
     {
         let Ok(top) = top_of(block) else {
             return Shared::new(alloc, Items::new(alloc));
         };
-        if let Some(reach) = kept_reach(&self.kept, &top.name)? {
-            return reach.get().names.share();
+        if !self.kept.ranks.contains_key(&top.name) {
+            return only_name(alloc, &top.name);
         }
-        let names = reaching(
-            alloc,
-            &self.values,
-            &self.kept.ranks,
-            &self.kept.uses,
-            self.kept.stamp,
-            &top.name,
-        )?;
-        Shared::new(alloc, Items::from(names))
+        let known = take_reach(&mut self.kept.reach, &top.name);
+        let Some(reach) = or_climbed(self.alloc, &self.values, &mut self.kept, &top.name, known)
+        else {
+            return above_of(alloc, &self.values, &self.kept, &top.name);
+        };
+        let names = reach.names.share()?;
+        hold_reach(&mut self.kept.reach, reach);
+        Ok(names)
     }
 
     /// Takes a block of an object or of a group, as a whole or not at all. The first line defines its name for the lines

@@ -58,7 +58,7 @@ pub(crate) fn table(rt: &(impl Abort + AllocGlobal), text: &[u8]) -> Objects
 }
 
 /// The table of a text that a loop wrote.
-fn long_table(rt: &(impl Abort + AllocGlobal), text: &[u8]) -> Objects {
+pub(crate) fn long_table(rt: &(impl Abort + AllocGlobal), text: &[u8]) -> Objects {
     assert!(rt; text.len() <= 8_000_000);
     table(rt, text)
 }
@@ -68,7 +68,11 @@ fn copy_of(rt: &impl Abort, objects: &Objects) -> Objects {
 }
 
 /// The names that reach what the first block of a text defines.
-fn reaching(rt: &(impl Abort + AllocGlobal), objects: &Objects, text: &[u8]) -> Shared<Items<Name>>
+fn reaching(
+    rt: &(impl Abort + AllocGlobal),
+    objects: &mut Objects,
+    text: &[u8],
+) -> Shared<Items<Name>>
     requires { length text.now < 2 ^ 31 }
 {
     let blocks = blocks_of(rt, text);
@@ -107,7 +111,7 @@ fn assert_kind(rt: &impl Abort, objects: &Objects, text: &[u8], kind: Option<Kin
 }
 
 /// Asserts that the first group that names a name is this one.
-fn assert_user(rt: &impl Abort, objects: &Objects, text: &[u8], user: &[u8]) {
+pub(crate) fn assert_user(rt: &impl Abort, objects: &Objects, text: &[u8], user: &[u8]) {
     let name = name(rt, text);
     let first = objects
         .group_using(&name)
@@ -117,7 +121,7 @@ fn assert_user(rt: &impl Abort, objects: &Objects, text: &[u8], user: &[u8]) {
 }
 
 /// Asserts that no group names a name.
-fn assert_free(rt: &impl Abort, objects: &Objects, text: &[u8]) {
+pub(crate) fn assert_free(rt: &impl Abort, objects: &Objects, text: &[u8]) {
     let name = name(rt, text);
     assert!(rt; objects.group_using(&name).is_none());
     assert!(rt; !objects.is_used(&name));
@@ -195,16 +199,16 @@ pub(crate) fn assert_hosts(
     assert!(rt; members.as_slice() == hosts.as_slice());
 }
 
-fn push(rt: &impl Abort, text: &mut Vec<u8>, bytes: &[u8]) {
+pub(crate) fn push(rt: &impl Abort, text: &mut Vec<u8>, bytes: &[u8]) {
     push_bytes(text, bytes).expect(rt, "memory for the text");
 }
 
-fn push_digits(rt: &impl Abort, text: &mut Vec<u8>, number: u32) {
+pub(crate) fn push_digits(rt: &impl Abort, text: &mut Vec<u8>, number: u32) {
     push_number(text, u64::from(number)).expect(rt, "memory for the text");
 }
 
 /// Each number of a range, written between two pieces.
-fn push_repeated(
+pub(crate) fn push_repeated(
     rt: &impl Abort,
     text: &mut Vec<u8>,
     numbers: Range<u32>,
@@ -308,22 +312,30 @@ fn a_group_that_names_one_that_is_not_there_or_itself_is_refused(rt: HostRuntime
 
 #[test]
 fn groups_of_groups_reach_what_a_block_defines(rt: HostRuntime) {
-    let objects = table(
+    let mut objects = table(
         &rt,
         b"object-group network A\nobject-group network B\n group-object A\nobject-group network C\n network-object host 10.0.0.1\n group-object B\nobject-group network D\n network-object host 10.0.0.2\n",
     );
-    let names = reaching(&rt, &objects, b"object-group network A\n group-object D\n");
+    let names = reaching(
+        &rt,
+        &mut objects,
+        b"object-group network A\n group-object D\n",
+    );
     assert_eq!(rt; names.get().len(), 3);
     assert_has_name(&rt, names.get().as_slice(), b"A");
     assert_has_name(&rt, names.get().as_slice(), b"B");
     assert_has_name(&rt, names.get().as_slice(), b"C");
-    let top = reaching(&rt, &objects, b"object-group network C\n");
+    let top = reaching(&rt, &mut objects, b"object-group network C\n");
     assert_eq!(rt; top.get().len(), 1);
     assert_has_name(&rt, top.get().as_slice(), b"C");
-    let new = reaching(&rt, &objects, b"object-group network E\n group-object A\n");
+    let new = reaching(
+        &rt,
+        &mut objects,
+        b"object-group network E\n group-object A\n",
+    );
     assert_eq!(rt; new.get().len(), 1);
     assert_has_name(&rt, new.get().as_slice(), b"E");
-    let unread = reaching(&rt, &objects, b"object-group network\n");
+    let unread = reaching(&rt, &mut objects, b"object-group network\n");
     assert!(rt; unread.get().as_slice().is_empty());
 }
 

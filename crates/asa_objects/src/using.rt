@@ -14,17 +14,6 @@ use asa_members::Item;
 use std::alloc::{AllocError, Global};
 use std::collections::{BTreeMap, BTreeSet};
 
-/// The names of a list.
-pub(crate) fn set_of(alloc: Global, names: &[Name]) -> Result<BTreeSet<Name>, AllocError>
-    ensures { IfOk result (λ s. (q : List ℕ) → has_name s.keys q ≡ has_name names.now q) }
-{
-    let mut set = BTreeSet::new(alloc);
-    for name in names {
-        set.insert(name.copy())?;
-    }
-    Ok(set)
-}
-
 /// A name as the only one of a set.
 fn alone(alloc: Global, name: &Name) -> Result<BTreeSet<Name>, AllocError>
     ensures { IfOk result (λ s. (q : List ℕ) → has_name s.keys q ≡ same_name name.now q) }

@@ -4,6 +4,7 @@ use Rattle.std.specs.BTreeMap.{is_at, insert_entry}
 use Rattle.std.specs.Ordering.{nat_cmp}
 use Rattle.std.specs.Cmp.Lexicographic.{slice_cmp}
 use Rattle.asa_objects.specs.Tables.{Entry, Table, entry_of, same_name}
+use Rattle.asa_objects.specs.Graphs.{IsGraphKept}
 use Rattle.asa_objects.specs.Reaching.{IsReachKept}
 use Rattle.asa_objects.specs.Ranks.{IsSound, Ranks, rank_of}
 use Rattle.asa_objects.proofs.LabelLaws.{changed-at}
@@ -11,6 +12,8 @@ use Rattle.asa_objects.proofs.PutLaws.{name-gone}
 use Rattle.asa_objects.proofs.LoneLaws.{none-of}
 use Rattle.asa_objects.proofs.OpenLaws.{open-sound}
 use Rattle.asa_objects.proofs.PlaceLaws.{keys-added}
+use Rattle.asa_objects.proofs.CloseLaws.{keys-long}
+use Rattle.asa_objects.proofs.GraphLaws.{opened}
 use Rattle.asa_objects.proofs.StayLaws.{kept-opened}
 use Rattle.asa_objects.proofs.opening.open_name.Goals as goal
 
@@ -59,3 +62,24 @@ returns-in-Err-clause-reach c =
     ∙ name-gone c.args.name.now c.in_ok-empty.empty c.args.values.now.entries c.requires.absent in
     subst (λ (t : Table). IsReachKept t c.insert-2.new.self.entries c.args.kept.now.reach.items) (sym back)
     (subst (λ (r : Ranks). IsReachKept c.args.values.now.entries r c.args.kept.now.reach.items) (sym c.in-Err.ensures.err) c.requires.reach)
+
+pub returns-in-Ok-clause-graph : goal.returns-in-Ok-clause-graph
+returns-in-Ok-clause-graph c =
+    let absent = none-of (rank_of c.args.kept.now.ranks.entries c.args.name.now) (c.requires.sound.ranked c.args.name.now ∙ ap is_some c.requires.absent) in
+    c.grow_graph.ensures c.args.values.now.entries c.insert.new.self.entries c.args.kept.now.ranks.entries c.insert-2.new.self.entries c.args.name.now
+    (c.len-places.ensures.len ∙ sym (keys-long c.args.kept.now.ranks.entries))
+    (opened c.args.values.now.entries c.insert.new.self.entries c.args.kept.now.ranks.entries c.insert-2.new.self.entries c.args.kept.now.uses.entries c.args.kept.now.stamp c.args.name.now c.copy-2.result c.in_ok-empty.empty
+    c.requires.sound c.requires.absent (ap (λ (e : Entry). e.items) c.in_ok-empty.ensures)
+    (λ q. c.in_ok-insert.ensures.updates.0 q ∙ ap (λ k. cond (same_name k q) (Some c.in_ok-empty.empty) (entry_of c.args.values.now.entries q)) c.copy.ensures)
+    c.copy-2.ensures (keys-added c.args.kept.now.ranks c.copy-2.result c.empty_rank.result c.insert-2.new.self.entries c.in-Ok.ensures.entries
+    (ap (rank_of c.args.kept.now.ranks.entries) c.copy-2.ensures ∙ absent)))
+    c.requires.graph
+
+pub returns-in-Err-clause-graph : goal.returns-in-Err-clause-graph
+returns-in-Err-clause-graph c =
+    let back : c.remove.new.self.entries ≡ c.args.values.now.entries =
+    c.remove.ensures.entries
+    ∙ ap (λ es. remove_entry (is_at (slice_cmp nat_cmp c.args.name.now)) es) (c.in_ok-insert.ensures.entries ∙ ap (λ k. insert_entry (slice_cmp nat_cmp) c.args.values.now.entries k c.in_ok-empty.empty) c.copy.ensures)
+    ∙ name-gone c.args.name.now c.in_ok-empty.empty c.args.values.now.entries c.requires.absent in
+    subst (λ (t : Table). IsGraphKept t c.insert-2.new.self.entries c.args.kept.now.graph.items) (sym back)
+    (subst (λ (r : Ranks). IsGraphKept c.args.values.now.entries r c.args.kept.now.graph.items) (sym c.in-Err.ensures.err) c.requires.graph)

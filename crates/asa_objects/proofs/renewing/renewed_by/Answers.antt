@@ -2,8 +2,9 @@ use Rattle.std.proofs.Common.{◌≡◌, [], Result, Err, arith, rules, sym, ap,
 use Rattle.asa_objects.specs.declared.renewing.Renewal.{Renewal}
 use Rattle.asa_objects.specs.declared.faults.ObjectFault.{ObjectFault}
 use Rattle.asa_objects.specs.Reaching.{RenewsBy, ranks_by}
+use Rattle.asa_objects.specs.Totalling.{IsRenewed}
 use Rattle.asa_objects.proofs.RenewLaws.{renew-start, small-start}
-use Rattle.asa_objects.proofs.ByLaws.{none-by, moved-start, fault-by, longer-by, more-by}
+use Rattle.asa_objects.proofs.ByLaws.{none-by, moved-start, fault-by, longer-by, more-by, names-all}
 use Rattle.asa_objects.proofs.renewing.renewed_by.Goals as goal
 
 pub loop-way-init : goal.loop-way-init
@@ -33,3 +34,11 @@ loop-way-preserved c = (
       c.loop-way.way-index c.way-item.result c.way-item.result (omega arith) (search rules) c.loop-way.renewed.items c.loop-way.label (c.loop-way.invariant.1 t after uses name sound counts former told)
       c.in_ok-label.label c.in_ok-totals.totals c.push_rank.new.ranks.items c.loop-way.invariant.0 c.in_ok-totals.ensures c.in_ok-push_rank.ensures.ok c.in_ok-label.ensures.ok,
 )
+
+pub returns : goal.returns
+returns c = λ t after uses name sound counts former told.
+    let before = c.loop-way.invariant.1 t after uses name sound counts former told in (
+      omega (arith, c.loop-way.invariant.0),
+      subst (λ ns. IsRenewed after c.args.ranks.now.entries c.args.stamp ns (ranks_by c.args.ways.now c.loop-way.renewed.items) c.loop-way.label) (names-all c.args.ways.now c.loop-way.way-index (omega arith)) before.0,
+      before.1,
+    )

@@ -1,0 +1,7 @@
+use Rattle.std.proofs.Common.{◌≡◌, ◌++◌, drop}
+use Rattle.asa_objects.specs.Changing.{moving}
+use Rattle.asa_objects.specs.Ranks.{refs_in}
+use Rattle.asa_objects.proofs.changing.moving_refs.Given as goal
+
+abbrev pub invariant-loop-item : goal.invariant-loop-item
+invariant-loop-item l = l.names.items ++ refs_in (drop l.item-index l.item-items) ≡ moving l.change.gone.keys l.change.added
