@@ -6,9 +6,9 @@ use Rattle.std.proofs.lemmas.List.{set_split}
 use Rattle.std.proofs.lemmas.Bool.{lt-ltb, and_parts, and_from}
 use Rattle.std.specs.List.{list_all, remove}
 use Rattle.asa_ifaces.specs.Interfaces.{Interfaces}
-use Rattle.asa_objects.specs.Tables.{Table}
+use Rattle.asa_values.specs.Tables.{Table}
+use Rattle.asa_lists.specs.Counted.{Counted, lists_in}
 use Rattle.asa_config.specs.Settings.{same_side, list_among}
-use Rattle.asa_config.specs.Counted.{Counted, lists_in}
 use Rattle.asa_config.specs.Groups.{with_side, without_side}
 use Rattle.asa_config.specs.Soundness.{IsKept, is_global_defined}
 

@@ -1,5 +1,5 @@
 -- The parts of a configuration: its lists are those of the table, and their pairs are kept.
-use Rattle.std.proofs.Common.{◌≡◌, ℕ, ◌+◌, Bool, true, false, cond, List, [], ◌∷◌, length, drop, zero, Option, Some, None, slice_get, refl, sym, ap, ◌∙◌, suc, arith}
+use Rattle.std.proofs.Common.{◌≡◌, ℕ, ◌+◌, Bool, true, false, cond, List, [], ◌∷◌, length, zero, Option, Some, None, slice_get, refl, sym, ap, ◌∙◌, suc}
 use Rattle.std.specs.List.{find}
 use Rattle.std.specs.Option.{option_map}
 use Rattle.std.proofs.lemmas.List.{length-map}
@@ -7,11 +7,11 @@ use Rattle.std.proofs.lemmas.List.Sums.{sum_by-cons}
 use Rattle.asa_acl.specs.Lists.{AccessLines, list_uses}
 use Rattle.asa_boxes.specs.Meanings.{Meanings}
 use Rattle.asa_boxes.specs.Pairs.{list_pairs}
+use Rattle.asa_lists.specs.Counted.{Counted, is_list, counted_among, counted_using, lists_in, pairs_in}
+use Rattle.asa_lists.specs.Knowing.{pairs_of_lists}
+use Rattle.asa_lists.specs.Soundness.{AreCounted}
 use Rattle.asa_config.specs.Settings.{list_among}
-use Rattle.asa_config.specs.Counted.{Counted, is_list, counted_among, counted_using, lists_in, pairs_in}
 use Rattle.asa_config.specs.Objects.{list_using}
-use Rattle.asa_config.specs.Knowing.{pairs_of_lists}
-use Rattle.asa_config.specs.Soundness.{AreCounted}
 
 -- the list of a counted one
 abbrev pub list_in : Option Counted → Option AccessLines
@@ -37,25 +37,6 @@ list_at_place ts n o found = ap list_in found ∙ walk ts n
     walk [] k = refl
     walk (u ∷ us) zero = refl
     walk (u ∷ us) (suc k) = walk us k
-
-drop_at : (ts : List Counted) (i : ℕ) (t : Counted) → Some t ≡ slice_get ts i → drop i ts ≡ t ∷ drop (suc i) ts
-drop_at [] i t found = absurd (cc)
-drop_at (x ∷ xs) zero t found = let same : t ≡ x = cc in ap (λ y. y ∷ xs) (sym same)
-drop_at (x ∷ xs) (suc i) t found = drop_at xs i t found
-
--- the list at a place names it
-pub using_here : (ts : List Counted) (name : List ℕ) (i : ℕ) (t : Counted) → Some t ≡ slice_get ts i → counted_using (drop i ts) name ≡ counted_using ts name
-    → list_uses name t.list ≡ true → Some t ≡ counted_using ts name
-using_here ts name i t found before names =
-    ap (λ b. cond b (Some t) (counted_using (drop (suc i) ts) name)) (sym names) ∙ ap (λ us. counted_using us name) (sym (drop_at ts i t found)) ∙ before
-
--- or it doesn't
-pub using_past : (ts : List Counted) (name : List ℕ) (i : ℕ) (t : Counted) → Some t ≡ slice_get ts i → counted_using (drop i ts) name ≡ counted_using ts name
-    → list_uses name t.list ≡ false → counted_using (drop (i + 1) ts) name ≡ counted_using ts name
-using_past ts name i t found before names =
-    let one : suc i ≡ i + 1 = omega arith in
-    ap (λ k. counted_using (drop k ts) name) (sym one) ∙ ap (λ b. cond b (Some t) (counted_using (drop (suc i) ts) name)) (sym names)
-    ∙ ap (λ us. counted_using us name) (sym (drop_at ts i t found)) ∙ before
 
 pub list_using_in_table : (ts : List Counted) (name : List ℕ) (o : Option Counted) → o ≡ counted_using ts name → option_map (λ t. t.list.name) o ≡ list_using (lists_in ts) name
 list_using_in_table ts name o found = ap (option_map (λ t. t.list.name)) found ∙ walk ts

@@ -1,18 +1,19 @@
 -- What holds of the parts of a configuration goes on holding after a change of one of them.
-use Rattle.std.proofs.Common.{◌≡◌, ℕ, Bool, true, false, cond, List, [], ◌∷◌, ◌++◌, Option, Some, None, is_some, Decides, Result, Ok, Err, OnOk, OnErr, IfOk, refl, sym, ap, subst, ◌∙◌}
+use Rattle.std.proofs.Common.{◌≡◌, ℕ, Bool, true, false, cond, List, [], ◌∷◌, ◌++◌, Option, Some, None, is_some, Decides, Result, Ok, Err, OnOk, OnErr, refl, sym, ap, subst, ◌∙◌}
 use Rattle.std.specs.List.{list_all}
 use Rattle.std.specs.Str.{bytes_eq}
 use Rattle.std.proofs.lemmas.Slice.Eq.{bytes_eq-Decides}
 use Rattle.std.proofs.lemmas.Bool.{and_parts, and_from}
 use Rattle.asa_acl.specs.Lists.{AccessLines, with_line}
 use Rattle.asa_ifaces.specs.Interfaces.{Interfaces}
-use Rattle.asa_objects.specs.Tables.{Table}
+use Rattle.asa_values.specs.Tables.{Table}
 use Rattle.asa_boxes.specs.Pairs.{line_pairs}
-use Rattle.asa_config.specs.declared.stating.NewLine.{NewLine}
+use Rattle.asa_lists.specs.declared.stating.NewLine.{NewLine}
+use Rattle.asa_lists.specs.Counted.{Counted, lists_in, list_of, table_with}
+use Rattle.asa_lists.specs.Knowing.{meanings_in}
+use Rattle.asa_lists.specs.Soundness.{AreCounted}
 use Rattle.asa_config.specs.Settings.{has_name, list_among}
-use Rattle.asa_config.specs.Counted.{Counted, lists_in, list_of, table_with}
-use Rattle.asa_config.specs.Knowing.{meanings_in}
-use Rattle.asa_config.specs.Soundness.{AreCounted, IsKept, is_global_defined}
+use Rattle.asa_config.specs.Soundness.{IsKept, is_global_defined}
 use Rattle.asa_config.specs.Lists.{with_list, put_in}
 use Rattle.asa_config.proofs.LineLaws.{lists_put, counted_put}
 
@@ -87,16 +88,3 @@ pub lists_answer : {E : Type 0} (r : Result (Unit {0}) E) (ts us : List Counted)
     → OnOk r (lists_in us ≡ put_in (lists_in ts) new (list_among (lists_in ts) new.list))
 lists_answer (Ok x) ts us new n ok = lists_put ts us new n ok
 lists_answer (Err e) ts us new n ok = tt
-
--- what follows from an answer
-pub on_ok : {E A B : Type 0} (r : Result (Unit {0}) E) → (A → B) → OnOk r A → OnOk r B
-on_ok (Ok x) f a = f a
-on_ok (Err e) f a = tt
-
-pub on_err : {E A B : Type 0} (r : Result (Unit {0}) E) → (A → B) → OnErr r A → OnErr r B
-on_err (Ok x) f a = tt
-on_err (Err e) f a = f a
-
-pub if_ok : {E X : Type 0} {P Q : X → Type 0} (r : Result X E) → ((x : X) → P x → Q x) → IfOk r P → IfOk r Q
-if_ok (Ok x) f p = f x p
-if_ok (Err e) f p = tt

@@ -1,13 +1,10 @@
-pub mod TableLaws
 pub mod ConfigLaws
 pub mod LineLaws
 pub mod KeptLaws
 pub mod NetLaws
-pub mod SameLaws
+pub mod ApartLaws
 pub mod ObjectLaws
 pub mod ReadLaws
 pub mod BindingLaws
 pub mod TakenLaws
-pub mod RecountLaws
-pub mod UsingLaws
 pub mod PutLaws

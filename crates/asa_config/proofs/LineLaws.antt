@@ -7,14 +7,14 @@ use Rattle.asa_ace.specs.declared.stating.AclLine.{AclLine}
 use Rattle.asa_acl.specs.Lists.{AccessLines, with_line, lines_before}
 use Rattle.asa_boxes.specs.Meanings.{Meanings}
 use Rattle.asa_boxes.specs.Pairs.{line_pairs, list_pairs}
-use Rattle.asa_config.specs.declared.stating.NewLine.{NewLine}
+use Rattle.asa_lists.specs.declared.stating.NewLine.{NewLine}
+use Rattle.asa_lists.specs.Counted.{Counted, is_list, counted_among, lists_in, pairs_in, with_counted, line_put, list_of, put_into, table_with, has_room, has_room_of}
+use Rattle.asa_lists.specs.Knowing.{pairs_of_lists}
+use Rattle.asa_lists.specs.Soundness.{AreCounted}
+use Rattle.asa_lists.proofs.TableLaws.{pairs_with, found_name, put_named}
 use Rattle.asa_config.specs.Settings.{list_among}
-use Rattle.asa_config.specs.Counted.{Counted, is_list, counted_among, lists_in, pairs_in, with_counted, line_put, list_of, put_into, table_with, has_room, has_room_of}
-use Rattle.asa_config.specs.Knowing.{pairs_of_lists}
-use Rattle.asa_config.specs.Soundness.{AreCounted}
 use Rattle.asa_config.specs.Lists.{with_list, put_in}
 use Rattle.asa_config.specs.Lists as spec
-use Rattle.asa_config.proofs.TableLaws.{pairs_with, found_name, put_named}
 use Rattle.asa_config.proofs.ConfigLaws.{list_in, list_in_table, length_lists, pairs_counted}
 
 -- the same lists, as they are counted or not

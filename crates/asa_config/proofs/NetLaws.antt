@@ -9,16 +9,17 @@ use Rattle.asa_ifaces.specs.declared.holding.IfaceFault.TheVariants as fault
 use Rattle.asa_ifaces.specs.declared.holding.RouteLine.{RouteLine}
 use Rattle.asa_ifaces.specs.Answering.{Makes, Changes, and_then}
 use Rattle.asa_ifaces.specs.Interfaces.{Interfaces}
-use Rattle.asa_objects.specs.Tables.{Table}
+use Rattle.asa_values.specs.Tables.{Table}
 use Rattle.asa_ifaces.specs.Routes.{route_added, routes_with, route_removed, routes_without, has_route, without_route, with_routes}
 use Rattle.asa_text.specs.declared.reading.LineFault.TheVariants as word
+use Rattle.asa_classes.specs.Judging.{◌>>=◌}
+use Rattle.asa_classes.specs.Judging as judging
+use Rattle.asa_lists.specs.Counted.{Counted, lists_in}
+use Rattle.asa_lists.specs.Knowing.{meanings_in}
+use Rattle.asa_lists.specs.Soundness.{AreCounted}
 use Rattle.asa_config.specs.Settings.{Settings}
-use Rattle.asa_config.specs.Counted.{Counted, lists_in}
-use Rattle.asa_config.specs.Knowing.{meanings_in}
-use Rattle.asa_config.specs.Soundness.{IsKept, AreCounted, all_within, all_defined, is_global_defined}
+use Rattle.asa_config.specs.Soundness.{IsKept, all_within, all_defined, is_global_defined}
 use Rattle.asa_config.proofs.KeptLaws.{list_all-weaker}
-use Rattle.asa_config.specs.Judging.{◌>>=◌}
-use Rattle.asa_config.specs.Judging as judging
 use Rattle.asa_config.specs.Net.{of_net, told, with_net}
 
 abbrev Bound : Type 0

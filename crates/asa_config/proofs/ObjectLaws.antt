@@ -6,25 +6,28 @@ use Rattle.asa_members.specs.declared.topping.Top.{Top}
 use Rattle.asa_members.specs.Tops.{top_at}
 use Rattle.asa_text.specs.declared.grouping.Block.{Block}
 use Rattle.asa_ifaces.specs.Interfaces.{Interfaces}
-use Rattle.asa_objects.specs.declared.faults.ObjectFault.{ObjectFault}
-use Rattle.asa_objects.specs.declared.faults.ObjectFault.TheVariants as fault
-use Rattle.asa_objects.specs.Defining.{Defines, defined, defined_by, and_then, read_at, top_text}
+use Rattle.asa_values.specs.declared.faults.ObjectFault.{ObjectFault}
+use Rattle.asa_values.specs.declared.faults.ObjectFault.TheVariants as fault
+use Rattle.asa_values.specs.Defining.{Defines, defined, defined_by, and_then, read_at, top_text}
 use Rattle.asa_objects.specs.Keeping.{ForName, KeepsOthers}
 use Rattle.asa_objects.specs.Keeping as keeping
-use Rattle.asa_objects.specs.Ranks.{has_name}
-use Rattle.asa_objects.specs.Tables.{Table, reaches}
-use Rattle.asa_config.specs.declared.refusing.EditFault.TheVariants.{TooLarge}
-use Rattle.asa_config.specs.declared.refusing.EditRefusal.{EditRefusal}
-use Rattle.asa_config.specs.declared.refusing.EditRefusal.TheVariants.{At, NoMemory}
-use Rattle.asa_config.specs.Fitting.{capped, fitting}
-use Rattle.asa_config.specs.Using.{KeepsBut}
+use Rattle.asa_ranks.specs.Ranks.{has_name}
+use Rattle.asa_values.specs.Tables.{Table, reaches}
+use Rattle.asa_classes.specs.declared.refusing.EditFault.TheVariants.{TooLarge}
+use Rattle.asa_classes.specs.declared.refusing.EditRefusal.{EditRefusal}
+use Rattle.asa_classes.specs.declared.refusing.EditRefusal.TheVariants.{At, NoMemory}
+use Rattle.asa_classes.specs.Judging.{Gives, Judged, refused, ◌>>=◌}
+use Rattle.asa_lists.specs.Fitting.{capped}
+use Rattle.asa_lists.specs.Using.{KeepsBut}
+use Rattle.asa_lists.specs.Counted.{Counted, lists_in}
+use Rattle.asa_lists.specs.Knowing.{meanings_in, pairs_of_lists}
+use Rattle.asa_lists.specs.Soundness.{AreCounted}
+use Rattle.asa_config.specs.Fitting.{fitting}
 use Rattle.asa_config.specs.Settings.{Settings}
-use Rattle.asa_config.specs.Counted.{Counted, lists_in}
-use Rattle.asa_config.specs.Knowing.{meanings_in, pairs_of_lists, pair_count}
-use Rattle.asa_config.specs.Soundness.{IsKept, AreCounted, all_defined, is_global_defined}
-use Rattle.asa_config.specs.Judging.{Gives, Judged, refused, ◌>>=◌}
+use Rattle.asa_config.specs.Knowing.{pair_count}
+use Rattle.asa_config.specs.Soundness.{IsKept, all_defined, is_global_defined}
 use Rattle.asa_config.specs.Objects.{IsApart, Recounts, list_using, object_refusal, object_step, of_objects, told, with_objects, changed}
-use Rattle.asa_config.proofs.SameLaws.{counted_same, fits_same, apart_keeps}
+use Rattle.asa_config.proofs.ApartLaws.{counted_same, fits_same, apart_keeps}
 
 abbrev Bound : Type 0
 Bound = List ((ℕ × Bool) × List ℕ)
@@ -110,6 +113,11 @@ refused_used {X} (Err f) r c b new made is answer = let same : f ≡ r = cc in s
     as_table : (f : EditRefusal) → Recounts {X = X} (Err f) (pairs_of_lists (meanings_in new c.net.ifaces) c.lists) → Recounts {X = Table} (Err f) (pairs_of_lists (meanings_in new c.net.ifaces) c.lists)
     as_table NoMemory h = h
     as_table (At n g) h = h
+
+-- what is answered where they are many
+pub many_counted : (X : Type 0) (e : EditRefusal) (total n : ℕ) → e ≡ At 1 (TooLarge (capped total)) → total ≡ n → 262144 < total → Recounts {X = X} (Err e) n
+many_counted X e total n is same many =
+    subst (λ r. Recounts {X = X} (Err r) n) (sym is) (subst (λ k. 262144 < k) same many, ap (λ k. At 1 (TooLarge (capped k))) same)
 
 -- and what is answered where they are few
 pub few_used : {X : Type 0} (x : Result X EditRefusal) (t : X) (n : ℕ) → x ≡ Ok t → Recounts x n → n ≤ 262144

@@ -3,12 +3,12 @@ use Rattle.std.proofs.Common.{◌≡◌, ℕ, ◌+◌, List, [], ◌∷◌, map,
 use Rattle.asa_acl.specs.Lists.{AccessLines}
 use Rattle.asa_boxes.specs.Meanings.{Meanings}
 use Rattle.asa_boxes.specs.Pairs.{line_pairs, list_pairs}
-use Rattle.asa_config.specs.declared.stating.NewLine.{NewLine}
+use Rattle.asa_lists.specs.declared.stating.NewLine.{NewLine}
+use Rattle.asa_lists.specs.Counted.{Counted, lists_in}
+use Rattle.asa_lists.specs.Knowing.{pairs_of_lists}
+use Rattle.asa_lists.specs.Soundness.{AreCounted}
 use Rattle.asa_config.specs.Settings.{list_among}
-use Rattle.asa_config.specs.Counted.{Counted, lists_in}
-use Rattle.asa_config.specs.Knowing.{pairs_of_lists}
 use Rattle.asa_config.specs.Lists.{put_in}
-use Rattle.asa_config.specs.Soundness.{AreCounted}
 use Rattle.asa_config.proofs.LineLaws.{pairs_put}
 
 -- lists with their pairs

@@ -12,16 +12,17 @@ use Rattle.asa_acl.specs.Lists.{AccessLines, without_at, without_equal, without}
 use Rattle.asa_boxes.specs.Meanings.{Meanings}
 use Rattle.asa_boxes.specs.Pairs.{line_pairs, list_pairs}
 use Rattle.asa_ifaces.specs.Interfaces.{Interfaces}
-use Rattle.asa_objects.specs.Tables.{Table}
+use Rattle.asa_values.specs.Tables.{Table}
 use Rattle.std.proofs.lemmas.Bool.{and_parts, and_from}
 use Rattle.std.proofs.lemmas.Slice.Eq.{bytes_eq-Decides}
+use Rattle.asa_lists.specs.Counted.{Counted, is_list, counted_among, lists_in, without_counted, line_taken, table_without}
+use Rattle.asa_lists.specs.Counted as counted
+use Rattle.asa_lists.specs.Knowing.{meanings_in, pairs_of_lists}
+use Rattle.asa_lists.specs.Soundness.{AreCounted}
 use Rattle.asa_config.specs.Settings.{has_name, list_among}
-use Rattle.asa_config.specs.Counted.{Counted, is_list, counted_among, lists_in, without_counted, line_taken, table_without}
-use Rattle.asa_config.specs.Counted as counted
 use Rattle.asa_config.specs.Groups.{binds, is_name_there}
-use Rattle.asa_config.specs.Knowing.{meanings_in, pairs_of_lists}
 use Rattle.asa_config.specs.Lists.{with_list, without_list, without_line, place_in}
-use Rattle.asa_config.specs.Soundness.{AreCounted, IsKept, TakesPairs, is_global_defined}
+use Rattle.asa_config.specs.Soundness.{IsKept, TakesPairs, is_global_defined}
 use Rattle.asa_config.proofs.ConfigLaws.{list_in, list_in_table}
 use Rattle.asa_config.proofs.LineLaws.{lists_with_counted, counted_with, found_counted}
 use Rattle.asa_config.proofs.KeptLaws.{there_with, kept_lists}

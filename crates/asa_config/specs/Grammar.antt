@@ -6,7 +6,7 @@ use Rattle.asa_text.specs.Readers.{Read, ◌>>=◌, word_at, after_one, column_a
 use Rattle.asa_base.specs.Naming.{is_name, name_at}
 use Rattle.asa_base.specs.Reading.{interface_at}
 use Rattle.asa_ace.specs.Reading.{acl_line_at}
-use Rattle.asa_config.specs.declared.stating.NewLine.{NewLine}
+use Rattle.asa_lists.specs.declared.stating.NewLine.{NewLine}
 use Rattle.asa_config.specs.declared.stating.OldLine.{OldLine}
 use Rattle.asa_config.specs.declared.stating.Place.{Place}
 use Rattle.asa_config.specs.declared.stating.Place.TheVariants.{Side, Global}

@@ -3,13 +3,13 @@ use Rattle.std.specs.Prelude.{ℕ, ◌<◌, Bool, ◌||◌, List, [], ◌∷◌,
 use Rattle.std.specs.List.{list_any}
 use Rattle.std.specs.Str.{bytes_eq}
 use Rattle.asa_text.specs.declared.grouping.Block.{Block}
+use Rattle.asa_classes.specs.declared.refusing.EditFault.TheVariants.{NotBound}
+use Rattle.asa_classes.specs.Judging.{Judged, ◌>>=◌, refused, top_read, alone}
 use Rattle.asa_config.specs.declared.stating.Place.{Place}
 use Rattle.asa_config.specs.declared.stating.Place.TheVariants.{Side, Global}
 use Rattle.asa_config.specs.declared.stating.Binding.{Binding}
-use Rattle.asa_config.specs.declared.refusing.EditFault.TheVariants.{NotBound}
 use Rattle.asa_config.specs.Settings.{Settings, same_side, bound_to}
 use Rattle.asa_config.specs.Grammar.{binding_line, old_binding_line}
-use Rattle.asa_config.specs.Judging.{Judged, ◌>>=◌, refused, top_read, alone}
 
 -- a list takes the place of the earlier one of that side, or goes last
 abbrev pub with_side : List ((ℕ × Bool) × List ℕ) → ℕ × Bool → List ℕ → List ((ℕ × Bool) × List ℕ)

@@ -1,11 +1,7 @@
 pub mod Settings
 pub mod Knowing
-pub mod Judging
-pub mod Classes
-pub mod Counted
 pub mod Grammar
 pub mod Fitting
-pub mod Using
 pub mod Net
 pub mod Objects
 pub mod Groups

@@ -3,15 +3,15 @@ use Rattle.std.specs.Prelude.{ℕ, Bool, false, ◌==◌, nat_lt, List, [], ◌�
 use Rattle.asa_text.specs.declared.grouping.Block.{Block}
 use Rattle.asa_ace.specs.declared.stating.AclLine.{AclLine}
 use Rattle.asa_acl.specs.Lists.{AccessLines, with_line, without_equal, place_of_equal}
-use Rattle.asa_config.specs.declared.stating.NewLine.{NewLine}
+use Rattle.asa_classes.specs.declared.refusing.EditFault.TheVariants.{NoSuchLine, InUse, TooMany}
+use Rattle.asa_classes.specs.Judging.{Judged, ◌>>=◌, refused, top_text, top_read, alone}
+use Rattle.asa_lists.specs.declared.stating.NewLine.{NewLine}
+use Rattle.asa_lists.specs.Counted.{list_of}
 use Rattle.asa_config.specs.declared.stating.OldLine.{OldLine}
-use Rattle.asa_config.specs.declared.refusing.EditFault.TheVariants.{NoSuchLine, InUse, TooMany}
 use Rattle.asa_config.specs.Settings.{Settings, has_name, list_among}
-use Rattle.asa_config.specs.Counted.{list_of}
 use Rattle.asa_config.specs.Groups.{is_bound}
 use Rattle.asa_config.specs.Fitting.{fitting}
 use Rattle.asa_config.specs.Grammar.{new_line, old_line}
-use Rattle.asa_config.specs.Judging.{Judged, ◌>>=◌, refused, top_text, top_read, alone}
 
 -- a list takes the place of the one that has its name
 abbrev pub with_list : List AccessLines → AccessLines → List AccessLines

@@ -9,12 +9,12 @@ use Rattle.asa_ifaces.specs.Blocks as blocks
 use Rattle.asa_ifaces.specs.Routes.{route_line, no_route_line, route_added, has_route, without_route}
 use Rattle.asa_ifaces.specs.Times.{timeout_line, with_times}
 use Rattle.asa_ifaces.specs.Permits.{permits_line, with_permits}
-use Rattle.asa_config.specs.declared.refusing.EditFault.TheVariants.{NameTaken, NotAfterStartup, NoSuchLine, TooMany}
-use Rattle.asa_config.specs.declared.refusing.EditRefusal.{EditRefusal}
-use Rattle.asa_config.specs.declared.refusing.EditRefusal.TheVariants.{At, NoMemory}
+use Rattle.asa_classes.specs.declared.refusing.EditFault.TheVariants.{NameTaken, NotAfterStartup, NoSuchLine, TooMany}
+use Rattle.asa_classes.specs.declared.refusing.EditRefusal.{EditRefusal}
+use Rattle.asa_classes.specs.declared.refusing.EditRefusal.TheVariants.{At, NoMemory}
+use Rattle.asa_classes.specs.Judging.{Judged, ◌>>=◌, refused, line_refusal, top_read, alone}
 use Rattle.asa_config.specs.Settings.{Settings}
 use Rattle.asa_config.specs.Fitting.{fitting}
-use Rattle.asa_config.specs.Judging.{Judged, ◌>>=◌, refused, line_refusal, top_read, alone}
 
 -- the refusal of a block for a fault of its interface or its route
 abbrev pub net_refusal : IfaceFault → EditRefusal

@@ -4,18 +4,19 @@ use Rattle.std.specs.Option.{option_map}
 use Rattle.asa_text.specs.declared.grouping.Block.{Block}
 use Rattle.asa_acl.specs.Lists.{AccessLines, list_uses}
 use Rattle.asa_members.specs.Tops.{removal_at}
-use Rattle.asa_objects.specs.declared.faults.ObjectFault.{ObjectFault}
-use Rattle.asa_objects.specs.declared.faults.ObjectFault.TheVariants as object
-use Rattle.asa_objects.specs.Defining.{defined}
+use Rattle.asa_values.specs.declared.faults.ObjectFault.{ObjectFault}
+use Rattle.asa_values.specs.declared.faults.ObjectFault.TheVariants as object
+use Rattle.asa_values.specs.Defining.{defined}
 use Rattle.asa_objects.specs.Keeping.{ForName}
-use Rattle.asa_objects.specs.Tables.{Table, user_of, without_name, reaches}
-use Rattle.asa_config.specs.declared.refusing.EditFault.TheVariants.{Bad, Unsupported, Unknown, NameTaken, NoSuchLine, InUse, Cycle, TooMany, TooLarge, NotBuilt}
-use Rattle.asa_config.specs.declared.refusing.EditRefusal.{EditRefusal}
-use Rattle.asa_config.specs.declared.refusing.EditRefusal.TheVariants.{At, NoMemory}
+use Rattle.asa_values.specs.Tables.{Table, user_of, without_name, reaches}
+use Rattle.asa_classes.specs.declared.refusing.EditFault.TheVariants.{Bad, Unsupported, Unknown, NameTaken, NoSuchLine, InUse, Cycle, TooMany, TooLarge, NotBuilt}
+use Rattle.asa_classes.specs.declared.refusing.EditRefusal.{EditRefusal}
+use Rattle.asa_classes.specs.declared.refusing.EditRefusal.TheVariants.{At, NoMemory}
+use Rattle.asa_classes.specs.Judging.{Judged, ◌>>=◌, refused, top_read, alone}
+use Rattle.asa_lists.specs.Fitting.{capped}
 use Rattle.asa_config.specs.Settings.{Settings}
 use Rattle.asa_config.specs.Knowing.{known_of}
-use Rattle.asa_config.specs.Fitting.{capped, fitting}
-use Rattle.asa_config.specs.Judging.{Judged, ◌>>=◌, refused, top_read, alone}
+use Rattle.asa_config.specs.Fitting.{fitting}
 
 -- the refusal of a block for a fault of its object or group
 abbrev pub object_refusal : ObjectFault → EditRefusal

@@ -7,7 +7,7 @@ use Rattle.std.specs.Str.{bytes_eq}
 use Rattle.asa_ifaces.specs.Interfaces.{Interfaces}
 use Rattle.asa_ifaces.specs.Interfaces as ifaces
 use Rattle.asa_acl.specs.Lists.{AccessLines}
-use Rattle.asa_objects.specs.Tables.{Table}
+use Rattle.asa_values.specs.Tables.{Table}
 
 pub record Settings : Type 0 where
   -- the interfaces, the routes, the times, and what is permitted between interfaces of one level

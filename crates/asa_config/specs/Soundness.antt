@@ -1,15 +1,15 @@
 -- What holds of every configuration.
-use Rattle.std.specs.Prelude.{◌≡◌, ℕ, ◌+◌, ◌<◌, ◌≤◌, Bool, true, nat_lt, List, length, map, Option, Some, None, is_some}
-use Rattle.std.specs.List.{list_all, AllByRecursion}
+use Rattle.std.specs.Prelude.{◌≡◌, ℕ, ◌+◌, ◌<◌, ◌≤◌, Bool, true, nat_lt, List, length, Option, Some, None, is_some}
+use Rattle.std.specs.List.{list_all}
+use Rattle.asa_ifaces.specs.Interfaces.{Interfaces}
+use Rattle.asa_acl.specs.Lists.{AccessLines, without_at}
+use Rattle.asa_values.specs.Tables.{Table}
 use Rattle.asa_boxes.specs.Meanings.{Meanings}
 use Rattle.asa_boxes.specs.Pairs.{list_pairs}
-use Rattle.asa_ifaces.specs.Interfaces.{Interfaces}
-use Rattle.asa_objects.specs.Tables.{Table}
-use Rattle.asa_config.specs.Counted.{Counted, lists_in}
-use Rattle.asa_acl.specs.Lists.{AccessLines, without_at}
+use Rattle.asa_lists.specs.Counted.{Counted, lists_in}
+use Rattle.asa_lists.specs.Knowing.{meanings_in}
+use Rattle.asa_lists.specs.Soundness.{AreCounted}
 use Rattle.asa_config.specs.Settings.{list_among}
-use Rattle.asa_config.specs.Knowing.{meanings_in, pairs_of_lists}
-use Rattle.asa_config.specs.declared.fitting.Counts.{Counts}
 
 -- each binding is that of one of n interfaces
 abbrev pub all_within : ℕ → List ((ℕ × Bool) × List ℕ) → Bool
@@ -24,10 +24,6 @@ abbrev pub is_global_defined : List AccessLines → Option (List ℕ) → Bool
 is_global_defined lists None = true
 is_global_defined lists (Some name) = is_some (list_among lists name)
 
--- the pairs that are kept beside each list are its own
-abbrev pub AreCounted : Meanings → List Counted → Type 0
-AreCounted m ts = AllByRecursion (λ t. t.pairs ≡ list_pairs m t.list.lines) ts
-
 -- what holds of the parts of a configuration, whose objects, interfaces and counted lists are told
 pub record IsKept (objects : Table) (net : Interfaces) (ts : List Counted) (bound : List ((ℕ × Bool) × List ℕ)) (global : Option (List ℕ)) : Type 0 where
   pub counted : AreCounted (meanings_in objects net.ifaces) ts
@@ -39,7 +35,3 @@ pub record IsKept (objects : Table) (net : Interfaces) (ts : List Counted) (boun
 abbrev pub TakesPairs : Meanings → ℕ → ℕ → Option AccessLines → Type 0
 TakesPairs m place n None = ⊥
 TakesPairs m place n (Some l) = (place < length l.lines) × (list_pairs m (without_at l place).lines + n ≡ list_pairs m l.lines) × (n ≤ 262144)
-
--- the pairs of lists, each and all together
-abbrev pub AreCounts : Meanings → List AccessLines → Counts → Type 0
-AreCounts m lists n = (n.each.items ≡ map (λ l. list_pairs m l.lines) lists) × (n.total ≡ pairs_of_lists m lists)

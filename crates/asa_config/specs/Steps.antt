@@ -3,10 +3,10 @@ use Rattle.std.specs.Prelude.{Bool, true, List, codes, fold, Ok, Err, ifâ—Œthenâ
 use Rattle.asa_text.specs.declared.grouping.Block.{Block}
 use Rattle.asa_text.specs.Words.{Left, line_left}
 use Rattle.asa_text.specs.Readers.{after_one, next_is}
-use Rattle.asa_config.specs.declared.refusing.EditFault.TheVariants.{NotBuilt}
+use Rattle.asa_classes.specs.declared.refusing.EditFault.TheVariants.{NotBuilt}
+use Rattle.asa_classes.specs.Classes.{is_passed, begins_object}
+use Rattle.asa_classes.specs.Judging.{Judged, refused, top_text}
 use Rattle.asa_config.specs.Settings.{Settings, nothing}
-use Rattle.asa_config.specs.Classes.{is_passed, begins_object}
-use Rattle.asa_config.specs.Judging.{Judged, refused, top_text}
 use Rattle.asa_config.specs.Net.{interface_step, route_step, no_route_step, timeout_step, permits_step}
 use Rattle.asa_config.specs.Objects.{object_step, no_object_step}
 use Rattle.asa_config.specs.Lists.{line_step, no_line_step}

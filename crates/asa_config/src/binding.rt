@@ -1,17 +1,16 @@
 //! Access groups: which list is bound where.
 ghost use Rattle.std.specs.Prelude.{◌≡◌, ◌<◌, [], ◌∷◌, ◌++◌, true, IfOk, IfSome, IfNone, Some, None, OnOk, OnErr, is_some, length, remove, slice_set};
 ghost use Rattle.std.specs.Option.{option_copied};
+ghost use Rattle.asa_classes.specs.Judging.{Makes, top_read};
 ghost use Rattle.asa_config.specs.Grammar as grammar;
 ghost use Rattle.asa_config.specs.Groups as spec;
-ghost use Rattle.asa_config.specs.Judging.{Makes, top_read};
 ghost use Rattle.asa_config.specs.Settings.{list_named};
 
 use crate::configuring::{Config, bound_to, is_same_side};
-use crate::judging::{alone, line_refusal, refused, top_words};
 use crate::reading::{binding_line, old_binding_line};
-use crate::refusing::{EditFault, EditRefusal};
 use crate::stating::{Binding, Place};
 use asa_base::Name;
+use asa_classes::{EditFault, EditRefusal, alone, line_refusal, refused, top_words};
 use asa_text::Block;
 use std::alloc::AllocError;
 

@@ -1,16 +1,15 @@
 //! A configuration and its readers.
-ghost use Rattle.std.specs.Prelude.{◌≡◌, ℕ, ◌<◌, ◌≤◌, length, true, All, None, Some, IfNone, IfOk, IfSome, OnOk, OnErr, is_some, slice_get, sum_by};
+ghost use Rattle.std.specs.Prelude.{◌≡◌, ◌<◌, ◌≤◌, length, None, Some, IfOk, slice_get, sum_by};
 ghost use Rattle.std.specs.Option.{option_copied};
 ghost use Rattle.asa_boxes.specs.Pairs as pairs;
 ghost use Rattle.asa_config.specs.Knowing as knowing;
 ghost use Rattle.asa_config.specs.Settings as spec;
 
-use crate::scoping::Scope;
-use crate::tabling::ListTable;
 use asa_acl::Acl;
 use asa_base::{Addr, Kind, LineBox, Name, Names, PortProto, Service};
 use asa_boxes::boxes;
 use asa_ifaces::Ifaces;
+use asa_lists::{ListTable, Scope};
 use asa_objects::Objects;
 use asa_text::Items;
 use std::alloc::{AllocError, Global};
@@ -28,8 +27,8 @@ pub struct Config {
 }
 
 impl Model for Config {
+    ghost use Rattle.asa_lists.specs.Counted.{lists_in};
     ghost use Rattle.asa_config.specs.Settings.{Settings};
-    ghost use Rattle.asa_config.specs.Counted.{lists_in};
     ghost use Rattle.asa_config.specs.Soundness.{IsKept};
 
     ghost Value = { Settings };

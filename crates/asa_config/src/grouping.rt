@@ -1,27 +1,25 @@
 //! Blocks of objects and groups, and the lines that remove one.
 ghost use Rattle.std.specs.Prelude.{◌≡◌, ℕ, List, false, None, Ok, IfOk, OnOk, is_some, map};
 ghost use Rattle.std.specs.List.{list_any};
-ghost use Rattle.std.specs.Option.{option_copied};
 ghost use Rattle.asa_members.specs.Tops.{removal_at};
 ghost use Rattle.asa_objects.specs.Keeping.{ForName};
-ghost use Rattle.asa_objects.specs.Ranks.{has_name};
-ghost use Rattle.asa_objects.specs.Tables.{reaches, user_of, without_name};
-ghost use Rattle.asa_config.specs.Counted.{lists_in};
-ghost use Rattle.asa_config.specs.Judging.{Gives, Makes, top_read};
-ghost use Rattle.asa_config.specs.Knowing.{known_of, meanings_in, meanings_of, pairs_of_lists};
-ghost use Rattle.asa_config.specs.Soundness.{AreCounted};
+ghost use Rattle.asa_ranks.specs.Ranks.{has_name};
+ghost use Rattle.asa_values.specs.Tables.{reaches, user_of, without_name};
+ghost use Rattle.asa_lists.specs.Indexing.{AreTold, told_of};
+ghost use Rattle.asa_classes.specs.Judging.{Gives, Makes, top_read};
+ghost use Rattle.asa_lists.specs.Counted.{lists_in};
+ghost use Rattle.asa_lists.specs.Knowing.{meanings_in, pairs_of_lists};
+ghost use Rattle.asa_lists.specs.Soundness.{AreCounted};
+ghost use Rattle.asa_lists.specs.Using.{rest_pairs};
+ghost use Rattle.asa_config.specs.Knowing.{known_of, meanings_of};
 ghost use Rattle.asa_config.specs.Objects as spec;
-ghost use Rattle.asa_config.specs.Using.{rest_pairs};
 
 use crate::configuring::Config;
-use crate::fitting::{MOST_PAIRS, too_large};
-use crate::judging::{alone, line_refusal, refused, top_words};
-use crate::refusing::{EditFault, EditRefusal};
-use crate::scoping::Scope;
-use crate::tabling::ListTable;
-use crate::using::{counts_with, rest_of_lists};
+use crate::fitting::MOST_PAIRS;
 use asa_base::Name;
+use asa_classes::{EditFault, EditRefusal, alone, line_refusal, refused, top_words};
 use asa_ifaces::Ifaces;
+use asa_lists::{ListTable, NamesByList, Scope, counts_with, rest_of_lists, too_large};
 use asa_members::{Removal, read_removal};
 use asa_objects::{ObjectFault, Objects};
 use asa_text::Block;
@@ -84,10 +82,10 @@ fn recounted(
     objects: &Objects,
     net: &Ifaces,
     mut table: ListTable,
-    names: &[Name],
+    listed: &NamesByList,
     rests: &[u128],
 ) -> Result<ListTable, EditRefusal>
-    requires { rests.now ≡ map (λ l. rest_pairs (meanings_in objects.now net.now.ifaces) names.now l.lines) (lists_in table) }
+    requires { rests.now ≡ map (λ l. rest_pairs (meanings_in objects.now net.now.ifaces) (told_of listed.now.entries l.name) l.lines) (lists_in table) }
     ensures lists { IfOk result (λ t. lists_in t ≡ lists_in table) }
     ensures counted { IfOk result (λ t. AreCounted (meanings_in objects.now net.now.ifaces) t) }
     ensures answer { spec.Recounts result (pairs_of_lists (meanings_in objects.now net.now.ifaces) (lists_in table)) }
@@ -96,7 +94,7 @@ fn recounted(
         objects,
         ifaces: net.ifaces(),
     };
-    let counts = counts_with(alloc, &scope, &table, names, rests)?;
+    let counts = counts_with(alloc, &scope, &table, listed, rests)?;
     if counts.total > MOST_PAIRS {
         return Err(too_large(counts.total));
     }
@@ -125,11 +123,18 @@ impl Config {
         free_of(self.list_using(name))
     }
 
+    /// Whether some list names the object or group; asks no list.
+    fn is_listed(&self, name: &Name) -> bool
+        ensures { result ≡ is_some (spec.list_using self.now.lists name.now) }
+    {
+        self.table.is_used(name)
+    }
+
     /// Whether some list names one of these objects and groups.
     fn lists_name(&self, names: &[Name]) -> bool
         ensures { result ≡ list_any (λ q. is_some (spec.list_using self.now.lists q)) names.now }
     {
-        names.iter().any(|name| self.list_using(name).is_some())
+        names.iter().any(|name| self.is_listed(name))
     }
 
     /// Takes a block of an object or a group that no list names, so that no pair is to be counted.
@@ -144,11 +149,18 @@ impl Config {
         Ok(self)
     }
 
-    /// The pairs of the lines of each list that use none of these objects and groups.
-    fn rest_of(&self, names: &[Name]) -> Result<Vec<u128>, AllocError>
-        ensures { IfOk result (λ v. v.items ≡ map (λ l. rest_pairs (meanings_of self.now) names.now l.lines) self.now.lists) }
+    /// For each list that uses some of these objects and groups, those that it uses, in their order.
+    fn names_used(&self, names: &[Name]) -> Result<NamesByList, AllocError>
+        ensures { IfOk result (λ m. AreTold m.entries self.now.lists names.now) }
     {
-        rest_of_lists(self.alloc, &self.scope(), &self.table, names)
+        self.table.names_used(names)
+    }
+
+    /// The pairs of the lines of each list that use none of the objects and groups that are told of it.
+    fn rest_of(&self, listed: &NamesByList) -> Result<Vec<u128>, AllocError>
+        ensures { IfOk result (λ v. v.items ≡ map (λ l. rest_pairs (meanings_of self.now) (told_of listed.now.entries l.name) l.lines) self.now.lists) }
+    {
+        rest_of_lists(self.alloc, &self.scope(), &self.table, listed)
     }
 
     /// Takes a block of an object or a group that lists name: the lines that use it, or a group that leads to it, are
@@ -157,7 +169,8 @@ impl Config {
         requires { ForName block.now (λ name. (q : List ℕ) → has_name names.now q ≡ reaches self.objects q name) }
         ensures { Gives result (spec.object_step self block.now) }
     {
-        let rests = self.rest_of(names)?;
+        let listed = self.names_used(names)?;
+        let rests = self.rest_of(&listed)?;
         let Config {
             net,
             mut objects,
@@ -167,7 +180,7 @@ impl Config {
             alloc,
         } = self;
         told(objects.define(block))?;
-        let table = recounted(alloc, &objects, &net, table, names, rests.as_slice())?;
+        let table = recounted(alloc, &objects, &net, table, &listed, rests.as_slice())?;
         Ok(Config {
             net,
             objects,

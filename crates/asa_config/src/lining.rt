@@ -2,8 +2,8 @@
 ghost use Rattle.std.specs.Prelude.{◌≡◌, ◌+◌, ◌^◌, ◌<◌, ◌≤◌, ◌==◌, true, false, Some, codes, IfOk, IfSome, IsSomeAnd, OnOk, OnErr, is_some, length};
 ghost use Rattle.asa_acl.specs.Lists.{without_at};
 ghost use Rattle.asa_boxes.specs.Pairs as counts;
-ghost use Rattle.asa_config.specs.Counted.{has_room};
-ghost use Rattle.asa_config.specs.Judging.{Gives, Makes, top_read, top_text};
+ghost use Rattle.asa_classes.specs.Judging.{Gives, Makes, top_read, top_text};
+ghost use Rattle.asa_lists.specs.Counted.{has_room};
 ghost use Rattle.asa_config.specs.Fitting.{fitting};
 ghost use Rattle.asa_config.specs.Grammar as grammar;
 ghost use Rattle.asa_config.specs.Groups.{is_bound};
@@ -13,14 +13,14 @@ ghost use Rattle.asa_config.specs.Settings.{list_named, list_among};
 ghost use Rattle.asa_config.specs.Soundness.{TakesPairs};
 
 use crate::configuring::Config;
-use crate::fitting::{MOST_PAIRS, too_large};
-use crate::judging::{alone, line_refusal, refused, top_line};
+use crate::fitting::MOST_PAIRS;
 use crate::reading::{new_line, old_line};
-use crate::refusing::{EditFault, EditRefusal};
-use crate::stating::{NewLine, OldLine};
+use crate::stating::OldLine;
 use asa_acl::{Acl, AclLine};
 use asa_base::Name;
 use asa_boxes::line_pairs;
+use asa_classes::{EditFault, EditRefusal, alone, line_refusal, refused, top_line};
+use asa_lists::{NewLine, too_large};
 use asa_text::{Block, Words};
 use std::alloc::AllocError;
 

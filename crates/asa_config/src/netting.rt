@@ -4,17 +4,17 @@ ghost use Rattle.asa_ifaces.specs.Permits.{permits_line, with_permits};
 ghost use Rattle.asa_ifaces.specs.Routes.{has_route, no_route_line, route_line};
 ghost use Rattle.asa_ifaces.specs.Times.{timeout_line, with_times};
 ghost use Rattle.asa_ifaces.specs.Blocks.{interface_step};
-ghost use Rattle.asa_config.specs.Judging.{Gives, Makes, top_read};
-ghost use Rattle.asa_config.specs.Knowing.{meanings_in, pair_count};
-ghost use Rattle.asa_config.specs.Soundness.{AreCounts};
+ghost use Rattle.asa_classes.specs.Judging.{Gives, Makes, top_read};
+ghost use Rattle.asa_lists.specs.Knowing.{meanings_in};
+ghost use Rattle.asa_lists.specs.Soundness.{AreCounts};
+ghost use Rattle.asa_config.specs.Knowing.{pair_count};
 ghost use Rattle.asa_config.specs.Net as spec;
 
 use crate::configuring::Config;
-use crate::fitting::{Counts, MOST_PAIRS, count_lists, too_large};
-use crate::judging::{alone, line_refusal, refused, top_line};
-use crate::refusing::{EditFault, EditRefusal};
-use crate::scoping::Scope;
+use crate::fitting::MOST_PAIRS;
+use asa_classes::{EditFault, EditRefusal, alone, line_refusal, refused, top_line};
 use asa_ifaces::{IfaceFault, Ifaces, Permits, RouteLine, Timeouts, read_permits};
+use asa_lists::{Counts, Scope, count_lists, too_large};
 use asa_text::Block;
 use std::alloc::AllocError;
 

@@ -9,9 +9,10 @@ ghost use Rattle.asa_config.specs.Knowing.{known_of};
 ghost use Rattle.asa_config.specs.Settings.{list_named};
 
 use crate::configuring::Config;
-use crate::stating::{Binding, NewLine, OldLine, Place};
+use crate::stating::{Binding, OldLine, Place};
 use asa_acl::acl_line;
 use asa_base::{Name, name};
+use asa_lists::NewLine;
 use asa_text::{LineFault, Words, end_of_line, keyword, number};
 use std::alloc::Global;
 

@@ -1,16 +1,6 @@
-//! What lines of access lists and access groups say.
+//! What lines of access groups say, and those that take a line out of a list.
 use asa_acl::AclLine;
 use asa_base::Name;
-
-/// A line that goes into a list.
-#[derive(Debug, Drop)]
-pub(crate) struct NewLine {
-    /// The name of the list, which may be a new one.
-    pub(crate) list: Name,
-    /// The number, 1 to 65,536, that the line is to have, or `None` for the last place.
-    pub(crate) place: Option<u32>,
-    pub(crate) item: AclLine,
-}
 
 /// A line that is removed from a list.
 #[derive(Debug, Drop)]

@@ -1,13 +1,11 @@
 //! The step of a configuration by one block.
-ghost use Rattle.std.specs.Prelude.{◌≡◌};
-ghost use Rattle.asa_text.specs.Words.{line_left};
-ghost use Rattle.asa_config.specs.Judging.{Gives, Makes};
+ghost use Rattle.asa_classes.specs.Judging.{Gives, Makes};
 ghost use Rattle.asa_config.specs.Steps as spec;
 
-use crate::classing::{after_one, begins_object, is_passed};
 use crate::configuring::Config;
-use crate::judging::{refused, top_words};
-use crate::refusing::{EditFault, EditRefusal};
+use asa_classes::{
+    EditFault, EditRefusal, after_one, begins_object, is_passed, refused, top_words,
+};
 use asa_text::{Block, Words};
 
 impl Config {

@@ -1,7 +1,7 @@
 //! What lies outside the contracts: that the clauses mean what they should, at configurations from the rules.
 ghost use Rattle.std.specs.Prelude.{◌<◌, ◌^◌, length};
 
-use crate::{Class, Config, EditFault, EditRefusal, class_of, cut_blocks};
+use crate::{Config, EditFault, EditRefusal, cut_blocks};
 use asa_acl::Acl;
 use asa_base::{LineBox, Name, PortRange, Range, Service};
 use asa_text::{Addr, Block, Items};
@@ -67,15 +67,6 @@ fn assert_refused(rt: &(impl Abort + AllocGlobal), line: u32, fault: EditFault, 
     assert_eq!(rt; answer, Err(EditRefusal::At { line, fault }));
 }
 
-/// Asserts that the one block of a text has this class.
-fn assert_class(rt: &(impl Abort + AllocGlobal), class: Class, text: &[u8])
-    requires { length text.now < 2 ^ 31 }
-{
-    let blocks = blocks_of(rt, text);
-    let block = blocks.as_slice().first().expect(rt, "a block");
-    assert_eq!(rt; class_of(block), class);
-}
-
 fn name(rt: &impl Abort, text: &[u8]) -> Name {
     Name::new(text).expect(rt, "a name")
 }
@@ -104,31 +95,6 @@ fn lines_of(rt: &impl Abort, config: &Config, n: u32) -> u32 {
 
 fn bad(column: u32) -> EditFault {
     EditFault::Bad { column }
-}
-
-#[test]
-fn a_block_belongs_to_a_part_of_the_policy(rt: HostRuntime) {
-    assert_class(&rt, Class::Passed, b"mtu inside 1500\n");
-    assert_class(&rt, Class::Passed, b"no\n");
-    assert_class(&rt, Class::Passed, b"access-list X standard permit any\n");
-    assert_class(
-        &rt,
-        Class::Access,
-        b"no access-list X standard permit any\n",
-    );
-    assert_class(&rt, Class::Passed, b"access-list alert-interval 5\n");
-    assert_class(&rt, Class::Passed, b"no interface X\n");
-    assert_class(&rt, Class::Passed, b"asp load-balance per-packet\n");
-    assert_class(
-        &rt,
-        Class::Other,
-        b"asp rule-engine transactional-commit nat\n",
-    );
-    assert_class(&rt, Class::Other, b"timeout\n");
-    assert_class(&rt, Class::Nat, b"nat (a,b) source static any any\n");
-    assert_class(&rt, Class::Nat, b"object network A\n no nat\n");
-    assert_class(&rt, Class::Both, b"object network A\n host 192.0.2.1\n");
-    assert_class(&rt, Class::Both, b"no object-group service G\n");
 }
 
 #[test]
@@ -533,4 +499,132 @@ fn a_changed_name_counts_each_line_that_uses_it_once(rt: HostRuntime) {
         b"object-group network G\n network-object host 10.0.0.4\n",
     );
     assert_eq!(rt; config.pair_count(), 12);
+}
+
+/// What a removal is answered where this list is the first that uses what would go.
+fn used_by(rt: &impl Abort, list: &[u8]) -> Result<(), EditRefusal> {
+    let by = name(rt, list);
+    Err(EditRefusal::At {
+        line: 1,
+        fault: EditFault::InUse { by },
+    })
+}
+
+#[test]
+fn what_two_lists_use_stays_until_the_last_line_goes(rt: HostRuntime) {
+    let gone = b"no object network A\n";
+    let config = configured(
+        &rt,
+        b"object network A\n host 10.0.0.9\n\
+        access-list M permit ip object A any\n\
+        access-list M permit ip any any\n\
+        access-list K deny ip any object A\n\
+        access-list K permit ip any any\n",
+    );
+    assert_eq!(rt; edit_answer(&rt, &config, gone), used_by(&rt, b"M"));
+    let config = taken(&rt, config, b"no access-list M permit ip object A any\n");
+    assert_eq!(rt; edit_answer(&rt, &config, gone), used_by(&rt, b"K"));
+    let config = taken(&rt, config, b"no access-list K deny ip any object A\n");
+    assert_eq!(rt; edit_answer(&rt, &config, gone), Ok(()));
+    assert_eq!(rt; taken(&rt, config, gone).objects().len(), 0);
+}
+
+#[test]
+fn what_a_list_uses_goes_with_the_whole_list(rt: HostRuntime) {
+    let gone = b"no object network A\n";
+    let config = configured(
+        &rt,
+        b"object network A\n host 10.0.0.9\n\
+        access-list M permit ip object A any\n\
+        access-list K permit ip any object A\n",
+    );
+    let config = taken(&rt, config, b"no access-list M permit ip object A any\n");
+    assert_eq!(rt; edit_answer(&rt, &config, gone), used_by(&rt, b"K"));
+    let config = taken(&rt, config, b"no access-list K permit ip any object A\n");
+    assert_eq!(rt; config.list_count(), 1);
+    assert_eq!(rt; edit_answer(&rt, &config, gone), Ok(()));
+}
+
+#[test]
+fn an_object_at_both_places_of_two_equal_lines_goes_with_the_second(rt: HostRuntime) {
+    let gone = b"no object network A\n";
+    let line = b"no access-list M permit ip object A object A\n";
+    let config = configured(
+        &rt,
+        b"object network A\n host 10.0.0.9\n\
+        access-list M permit ip object A object A\n\
+        access-list M permit ip any any\n\
+        access-list M permit ip object A object A\n",
+    );
+    assert_eq!(rt; config.pair_count(), 4);
+    let config = taken(&rt, config, line);
+    assert_eq!(rt; config.pair_count(), 3);
+    assert_eq!(rt; edit_answer(&rt, &config, gone), used_by(&rt, b"M"));
+    let config = taken(&rt, config, line);
+    assert_eq!(rt; edit_answer(&rt, &config, gone), Ok(()));
+}
+
+#[test]
+fn a_line_that_is_refused_uses_nothing(rt: HostRuntime) {
+    // Nine ports on each side and 62 prefixes on each side have 311,364 pairs; the line of the base has one.
+    let line = b"access-list N permit tcp object A object-group P object A object-group P\n";
+    let refusal = EditRefusal::At {
+        line: 1,
+        fault: EditFault::TooLarge { pairs: 311_365 },
+    };
+    let config = configured(
+        &rt,
+        b"object network A\n range 0.0.0.1 255.255.255.254\n\
+        object-group service P tcp\n port-object eq 1\n port-object eq 3\n port-object eq 5\n\
+        \x20port-object eq 7\n port-object eq 9\n port-object eq 11\n port-object eq 13\n\
+        \x20port-object eq 15\n port-object eq 17\n",
+    );
+    assert_eq!(rt; edit_answer(&rt, &config, line), Err(refusal));
+    assert_eq!(rt; edit_answer(&rt, &config, b"no object network A\n"), Ok(()));
+    assert_eq!(rt;
+        edit_answer(&rt, &config, b"no object-group service P\n"),
+        Ok(())
+    );
+    // With one address on each side there are 81 pairs.
+    let config = taken(&rt, config, b"object network A\n host 10.0.0.9\n");
+    let config = taken(&rt, config, line);
+    assert_eq!(rt; config.pair_count(), 82);
+    assert_eq!(rt;
+        edit_answer(&rt, &config, b"no object network A\n"),
+        used_by(&rt, b"N")
+    );
+}
+
+#[test]
+fn a_group_counts_anew_the_one_list_that_uses_it_through_two_others(rt: HostRuntime) {
+    // The lines of the first and the last list have one pair each; that of the second has 81 for each pair of prefixes.
+    let config = configured(
+        &rt,
+        b"object network A\n host 10.0.0.9\n\
+        object-group network G\n network-object object A\n\
+        object-group network H\n group-object G\n\
+        object-group service P tcp\n port-object eq 1\n port-object eq 3\n port-object eq 5\n\
+        \x20port-object eq 7\n port-object eq 9\n port-object eq 11\n port-object eq 13\n\
+        \x20port-object eq 15\n port-object eq 17\n\
+        access-list M permit tcp object-group H object-group P object-group H object-group P\n\
+        access-list K permit ip any any\n",
+    );
+    assert_eq!(rt; config.pair_count(), 83);
+    // Two prefixes on each side: 324 pairs.
+    let config = taken(&rt, config, b"object network A\n range 10.0.0.1 10.0.0.2\n");
+    assert_eq!(rt; config.pair_count(), 326);
+    // 62 prefixes on each side: 311,364 pairs.
+    let wide = b"object network A\n range 0.0.0.1 255.255.255.254\n";
+    let refusal = EditRefusal::At {
+        line: 1,
+        fault: EditFault::TooLarge { pairs: 311_366 },
+    };
+    assert_eq!(rt; edit_answer(&rt, &config, wide), Err(refusal));
+    // A third member of the group below: 9 pairs of prefixes.
+    let config = taken(
+        &rt,
+        config,
+        b"object-group network G\n network-object host 10.0.0.4\n",
+    );
+    assert_eq!(rt; config.pair_count(), 731);
 }

@@ -6,16 +6,16 @@ use Rattle.asa_text.specs.declared.grouping.Block.{Block}
 use Rattle.asa_members.specs.declared.blocking.BlockKind.{BlockKind}
 use Rattle.asa_members.specs.declared.stating.Item.{Item}
 use Rattle.asa_members.specs.declared.topping.Top.{Top}
-use Rattle.asa_objects.specs.declared.drafting.Change.{Change}
-use Rattle.asa_objects.specs.declared.faults.ObjectFault.{ObjectFault}
-use Rattle.asa_objects.specs.declared.faults.ObjectFault.TheVariants as fault
-use Rattle.asa_objects.specs.Tables.{Entry, Table, entry_of, items_in, items_of, with_entry, services_of_name}
-use Rattle.asa_objects.specs.Ranks.{IsSound, Ranks, Uses}
-use Rattle.asa_objects.specs.Changing.{Replaces, changed_at, changed_in}
-use Rattle.asa_objects.specs.Defining.{Defines, and_then, are_small, is_small, limited, lacks_value, completed, changed_by, top_text}
+use Rattle.asa_values.specs.declared.drafting.Change.{Change}
+use Rattle.asa_values.specs.declared.faults.ObjectFault.{ObjectFault}
+use Rattle.asa_values.specs.declared.faults.ObjectFault.TheVariants as fault
+use Rattle.asa_values.specs.Tables.{Entry, Table, entry_of, items_in, items_of, with_entry, services_of_name}
+use Rattle.asa_ranks.specs.Ranks.{IsSound, Ranks, Uses}
+use Rattle.asa_ranks.specs.Changing.{Replaces, changed_at, changed_in}
+use Rattle.asa_values.specs.Defining.{Defines, and_then, are_small, is_small, limited, lacks_value, completed, changed_by, top_text}
 use Rattle.asa_objects.specs.Drafting.{after_change, drafted_by, Drafteds, IsRead, Reads}
-use Rattle.asa_objects.specs.Marks.{changed}
-use Rattle.asa_objects.proofs.RankLaws.{kept-members, kept-services}
+use Rattle.asa_values.specs.Marks.{changed}
+use Rattle.asa_ranks.proofs.RankLaws.{kept-members, kept-services}
 
 every : (p : List ℕ → Bool) → ((q : List ℕ) → p q ≡ true) → (es : Table) → list_all (λ e. p e.0) es ≡ true
 every p all [] = refl

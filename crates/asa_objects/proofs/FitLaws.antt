@@ -1,8 +1,7 @@
 -- The members that a block gives a name refer to names that are there and don't lead back.
-use Rattle.std.proofs.Common.{◌≡◌, ℕ, ◌+◌, ◌≤◌, suc, Bool, true, false, cond, not, nat_le, if◌then◌else◌, List, [], ◌∷◌, ◌++◌, length, Option, Some, None, Result, Ok, Err, is_some, refl, subst, arith}
+use Rattle.std.proofs.Common.{◌≡◌, ℕ, ◌+◌, Bool, true, false, cond, not, if◌then◌else◌, List, [], ◌∷◌, ◌++◌, Option, Some, None, Result, Ok, Err, is_some, refl, subst, arith}
 use Rattle.std.specs.List.{AllByRecursion, filter, list_any}
 use Rattle.std.specs.Option.{option_map}
-use Rattle.std.proofs.lemmas.Bool.{le-leb, leb-true}
 use Rattle.asa_text.specs.declared.lining.Line.{Line}
 use Rattle.asa_text.specs.declared.grouping.Block.{Block}
 use Rattle.asa_text.specs.Words.{line_left}
@@ -16,17 +15,17 @@ use Rattle.asa_members.specs.declared.stating.Statement.TheVariants as says
 use Rattle.asa_members.specs.declared.topping.Top.{Top}
 use Rattle.asa_members.specs.Blocks.{kind_of_block}
 use Rattle.asa_members.specs.Groups.{statement_at}
-use Rattle.asa_objects.specs.declared.faults.ObjectFault.{ObjectFault}
-use Rattle.asa_objects.specs.declared.faults.ObjectFault.TheVariants as fault
-use Rattle.asa_objects.specs.Tables.{Entry, Table, entry_of, items_of, named, reaches, refers_to, known_of}
-use Rattle.asa_objects.specs.Ranks.{IsSound, IsThere, Ranks, Uses, label_of}
-use Rattle.asa_objects.specs.Changing.{Fits}
+use Rattle.asa_values.specs.declared.faults.ObjectFault.{ObjectFault}
+use Rattle.asa_values.specs.declared.faults.ObjectFault.TheVariants as fault
+use Rattle.asa_values.specs.Tables.{Entry, Table, entry_of, items_of, named, reaches, refers_to, known_of}
+use Rattle.asa_ranks.specs.Ranks.{IsSound, IsThere, Ranks, Uses, label_of}
+use Rattle.asa_ranks.specs.Changing.{Fits}
 use Rattle.asa_objects.specs.Drafting.{drafted_by}
-use Rattle.asa_objects.specs.Defining.{after_line, after_lines, and_then, has_item, inner_lines, item_of_value, leads_to, read_at, same_item, stated, with_item, without_item}
-use Rattle.asa_objects.proofs.ReachLaws.{test_of, closed-has}
-use Rattle.asa_objects.proofs.RankLaws.{labelled, number, number-falls, number-few}
-use Rattle.asa_objects.proofs.ClimbLaws.{all-push, passes-refers, refers-below}
-use Rattle.asa_objects.proofs.ChangeLaws.{each-ref, from-ref}
+use Rattle.asa_values.specs.Defining.{after_line, after_lines, and_then, has_item, inner_lines, item_of_value, leads_to, read_at, same_item, stated, with_item, without_item}
+use Rattle.asa_values.proofs.ReachLaws.{test_of}
+use Rattle.asa_values.proofs.ListLaws.{all-push}
+use Rattle.asa_ranks.proofs.ClimbLaws.{above-it, refers-below}
+use Rattle.asa_ranks.proofs.ChangeLaws.{each-ref, from-ref}
 use Rattle.asa_objects.proofs.StateLaws.{Passes, IsKnown, States, states-known}
 
 all-kept : (P : Item → Type 0) (p : Item → Bool) (xs : List Item) → AllByRecursion P xs → AllByRecursion P (filter p xs)
@@ -94,21 +93,6 @@ module _ (t : Table) (name : List ℕ) where
       by (Err f) here h more = absurd (cc)
 
   module _ (ranks : Ranks) (uses : Uses) (stamp : ℕ) (sound : IsSound t ranks uses stamp) where
-    -- a name that reaches another has no lesser label
-    pub above-it : (q : List ℕ) → reaches t q name ≡ true → label_of ranks name ≤ label_of ranks q
-    above-it q r =
-        let ok = labelled t ranks uses stamp sound in
-        leb-true (label_of ranks name) (label_of ranks q)
-        (closed-has named (items_of t) (number t (label_of ranks) ok) (suc (length t)) name (λ p. nat_le (label_of ranks name) (label_of ranks p)) (number-falls t (label_of ranks) ok) (number-few t (label_of ranks) ok)
-        (le-leb (label_of ranks name) (label_of ranks name) (omega arith)) closed (suc (length t)) q (number-few t (label_of ranks) ok q) r)
-      where
-        closed : (p : List ℕ) → list_any (λ i. test_of (λ c. nat_le (label_of ranks name) (label_of ranks c)) (named i)) (items_of t p) ≡ true → nat_le (label_of ranks name) (label_of ranks p) ≡ true
-        closed p any =
-            let c = passes-refers (λ c. nat_le (label_of ranks name) (label_of ranks c)) (items_of t p) any in
-            let le = leb-true (label_of ranks name) (label_of ranks c.0) c.1 in
-            let lt = refers-below (label_of ranks) (label_of ranks p) c.0 (items_of t p) (sound.falls p) c.2 in
-            le-leb (label_of ranks name) (label_of ranks p) (omega (arith, le, lt))
-
     -- the members that a name has fit
     former-fit : AllFit (items_of t name)
     former-fit = each-ref (Fits t name) tt (items_of t name) (λ c r. (from-ref (IsThere t) (items_of t name) c (sound.there name) r, back c r))
@@ -119,7 +103,7 @@ module _ (t : Table) (name : List ℕ) where
             by : (b : Bool) → reaches t c name ≡ b → reaches t c name ≡ false
             by false e = e
             by true e =
-                let le = above-it c e in
+                let le = above-it t name ranks uses stamp sound c e in
                 let lt = refers-below (label_of ranks) (label_of ranks name) c (items_of t name) (sound.falls name) r in
                 absurd (omega (arith, le, lt))
 

@@ -8,20 +8,20 @@ use Rattle.asa_members.specs.declared.stating.Item.{Item}
 use Rattle.asa_members.specs.declared.topping.Top.{Top}
 use Rattle.asa_members.specs.Items.{item_services}
 use Rattle.asa_members.specs.Tops.{top_at}
-use Rattle.asa_objects.specs.declared.faults.ObjectFault.{ObjectFault}
-use Rattle.asa_objects.specs.declared.faults.ObjectFault.TheVariants as fault
-use Rattle.asa_objects.specs.Spreads.{of_name, spread}
-use Rattle.asa_objects.specs.Tables.{Entry, Table, entry_of, items_in, items_of, named, own_members, group_at, reaches, refers_to, same_name, with_entry, without_name}
-use Rattle.asa_objects.specs.Ranks.{IsSound, Ranks, Uses, label_of}
-use Rattle.asa_objects.specs.Defining.{and_then, read_at, top_text, is_within, limited, lacks_value, completed, begun, opened, opened_from, same_block, changed_by, defined_by, Defines}
+use Rattle.asa_values.specs.declared.faults.ObjectFault.{ObjectFault}
+use Rattle.asa_values.specs.declared.faults.ObjectFault.TheVariants as fault
+use Rattle.asa_values.specs.Spreads.{of_name, spread}
+use Rattle.asa_values.specs.Tables.{Entry, Table, entry_of, items_in, items_of, named, own_members, group_at, reaches, refers_to, same_name, with_entry, without_name}
+use Rattle.asa_ranks.specs.Ranks.{IsSound, Ranks, Uses, label_of}
+use Rattle.asa_values.specs.Defining.{and_then, read_at, top_text, is_within, limited, lacks_value, completed, begun, opened, opened_from, same_block, changed_by, defined_by, Defines}
 use Rattle.asa_objects.specs.Keeping.{IsKept, KeepsApart, KeepsOthers, KeepsRest}
-use Rattle.asa_objects.proofs.SpreadLaws.{Below, Falls, Among, flat_map-same}
-use Rattle.asa_objects.proofs.LabelLaws.{same-is}
-use Rattle.asa_objects.proofs.ReachLaws.{test_of}
-use Rattle.asa_objects.proofs.RankLaws.{IsLabelled, labelled, number, number-falls, number-few, reaches-items}
-use Rattle.asa_objects.proofs.UseLaws.{same-sym}
-use Rattle.asa_objects.proofs.ChangeLaws.{each-ref}
-use Rattle.asa_objects.proofs.PutLaws.{entry-put}
+use Rattle.asa_values.proofs.SpreadLaws.{Below, Falls, Among, flat_map-same}
+use Rattle.asa_values.proofs.LabelLaws.{same-is}
+use Rattle.asa_values.proofs.ReachLaws.{test_of}
+use Rattle.asa_ranks.proofs.RankLaws.{IsLabelled, labelled, number, number-falls, number-few, reaches-items}
+use Rattle.asa_ranks.proofs.UseLaws.{same-sym}
+use Rattle.asa_ranks.proofs.ChangeLaws.{each-ref}
+use Rattle.asa_ranks.proofs.PutLaws.{entry-put}
 use Rattle.asa_objects.proofs.DefineLaws.{made_of}
 
 -- names whose items and what these give are the same, and lead to such names alone, give the same

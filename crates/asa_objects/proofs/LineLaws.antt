@@ -4,10 +4,10 @@ use Rattle.std.proofs.Math.Seq.{drop-cons}
 use Rattle.asa_text.specs.declared.lining.Line.{Line}
 use Rattle.asa_members.specs.declared.blocking.BlockKind.{BlockKind}
 use Rattle.asa_members.specs.declared.stating.Item.{Item}
-use Rattle.asa_objects.specs.declared.faults.ObjectFault.{ObjectFault}
-use Rattle.asa_objects.specs.declared.faults.ObjectFault.TheVariants as fault
-use Rattle.asa_objects.specs.Tables.{Table}
-use Rattle.asa_objects.specs.Defining.{Takes, after_line, after_lines, and_then}
+use Rattle.asa_values.specs.declared.faults.ObjectFault.{ObjectFault}
+use Rattle.asa_values.specs.declared.faults.ObjectFault.TheVariants as fault
+use Rattle.asa_values.specs.Tables.{Table}
+use Rattle.asa_values.specs.Defining.{Takes, after_line, after_lines, and_then}
 
 ends : (t : Table) (name : List ℕ) (kind : BlockKind) (n : ℕ) (items : List Item) (l : Line) (ls : List Line) (f : ObjectFault) (new : List Item)
     → Takes (Err f) new (after_line t name kind n items l) → Takes (Err f) new (after_lines t name kind n items (l ∷ ls))

@@ -5,12 +5,12 @@ use Rattle.asa_members.specs.declared.stating.Item.{Item}
 use Rattle.asa_members.specs.declared.stating.Item.TheVariants as item
 use Rattle.asa_members.specs.Items.{item_services}
 use Rattle.asa_objects.specs.declared.expanding.Rest.{Rest}
-use Rattle.asa_objects.specs.Spreads.{of_name}
-use Rattle.asa_objects.specs.Tables.{Entry, Table, entry_of, items_in, items_of, named, own_members, members_of, services_of_name, group_at, group_of}
-use Rattle.asa_objects.specs.Ranks.{IsSound, Ranks, Uses, members, services, amount_of, label_of}
+use Rattle.asa_values.specs.Spreads.{of_name}
+use Rattle.asa_values.specs.Tables.{Entry, Table, entry_of, items_in, items_of, named, own_members, members_of, services_of_name, group_at, group_of}
+use Rattle.asa_ranks.specs.Ranks.{IsSound, Ranks, Uses, members, services, amount_of, label_of}
 use Rattle.asa_objects.specs.Stacks.{IsWaiting, given_by, unwound, marks, visits, cost_of, cost}
-use Rattle.asa_objects.proofs.SpreadLaws.{spread-items, total-append}
-use Rattle.asa_objects.proofs.RankLaws.{labelled, number, number-falls, number-few, kept-members, kept-services}
+use Rattle.asa_values.proofs.SpreadLaws.{spread-items, total-append}
+use Rattle.asa_ranks.proofs.RankLaws.{labelled, number, number-falls, number-few, kept-members, kept-services}
 
 append-nil : {X : Type 0} (xs : List X) → xs ++ [] ≡ xs
 append-nil [] = refl

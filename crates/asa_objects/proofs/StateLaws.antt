@@ -19,7 +19,7 @@ use Rattle.asa_members.specs.declared.stating.Statement.TheVariants as says
 use Rattle.asa_members.specs.Blocks.{kind_of_group}
 use Rattle.asa_members.specs.Objects.{network_value, host_at, subnet_at, range_at, network_object_no, other_network_line, network_object_line, service_value_at, service_line, service_object_line}
 use Rattle.asa_members.specs.Groups.{object_item_at, group_address_at, network_item_at, group_service_at, service_item_at, member_ports_at, port_item_at, protocol_item_at, icmp_item_at, item_at, fits_in, group_item_at, member_word, own_item_at, any_item_at, member_at, begins_member, added_at, removed_at, after_no, group_line, statement_at}
-use Rattle.asa_objects.specs.Tables.{named}
+use Rattle.asa_values.specs.Tables.{named}
 
 -- what was read passes
 abbrev pub Passes : {X : Type 0} → (X → Type 0) → Read X → Type 0

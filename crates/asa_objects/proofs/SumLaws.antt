@@ -6,20 +6,20 @@ use Rattle.std.specs.Cmp.Lexicographic.{slice_cmp}
 use Rattle.std.proofs.lemmas.List.{take-append-drop}
 use Rattle.asa_members.specs.declared.stating.Item.{Item}
 use Rattle.asa_members.specs.declared.stating.Item.TheVariants as item
-use Rattle.asa_objects.specs.Amounts.{Amounts}
-use Rattle.asa_objects.specs.declared.ranking.Rank.{Rank}
-use Rattle.asa_objects.specs.declared.faults.ObjectFault.{ObjectFault}
-use Rattle.asa_objects.specs.declared.faults.ObjectFault.TheVariants as fault
-use Rattle.asa_objects.specs.Spreads.{total, weight_of}
-use Rattle.asa_objects.specs.Tables.{Entry, Table, entry_of, group_at, items_in, items_of, named, refers_to, same_name}
-use Rattle.asa_objects.specs.Ranks.{IsSound, Part, members, services, amount, amount_in, amount_of, Ranks, Uses, rank_of, users_of, has_name, weigh, own_totals}
+use Rattle.asa_ranks.specs.Amounts.{Amounts}
+use Rattle.asa_ranks.specs.declared.ranking.Rank.{Rank}
+use Rattle.asa_values.specs.declared.faults.ObjectFault.{ObjectFault}
+use Rattle.asa_values.specs.declared.faults.ObjectFault.TheVariants as fault
+use Rattle.asa_values.specs.Spreads.{total, weight_of}
+use Rattle.asa_values.specs.Tables.{Entry, Table, entry_of, group_at, items_in, items_of, named, refers_to, same_name}
+use Rattle.asa_ranks.specs.Ranks.{IsSound, Part, members, services, amount, amount_in, amount_of, Ranks, Uses, rank_of, users_of, has_name, weigh, own_totals}
 use Rattle.asa_objects.specs.Summing.{Running, sum_of, or_old, sum_now, ArePassed, AreRunning}
-use Rattle.asa_objects.specs.Totalling.{newer, amount_now, totals_in_rank, summed, times, times_among, AreMoved, AreSums, IsOver, IsRenewed, IsTold, Limits, Sums}
-use Rattle.asa_objects.proofs.LabelLaws.{same-is}
-use Rattle.asa_objects.proofs.ReachLaws.{any-append, test_of}
-use Rattle.asa_objects.proofs.TotalLaws.{amount-rank}
-use Rattle.asa_objects.proofs.PassLaws.{times-none, among-users}
-use Rattle.asa_objects.proofs.ToldLaws.{sum-told}
+use Rattle.asa_ranks.specs.Totalling.{newer, amount_now, totals_in_rank, summed, times, times_among, AreMoved, AreSums, IsOver, IsRenewed, IsTold, Limits, Sums}
+use Rattle.asa_values.proofs.LabelLaws.{same-is}
+use Rattle.asa_values.proofs.ReachLaws.{any-append, test_of}
+use Rattle.asa_ranks.proofs.TotalLaws.{amount-rank}
+use Rattle.asa_ranks.proofs.PassLaws.{times-none, among-users}
+use Rattle.asa_ranks.proofs.ToldLaws.{sum-told}
 
 add-times : (a b n : ℕ) → (a + b) * n ≡ a * n + b * n
 add-times a b n = grind arith

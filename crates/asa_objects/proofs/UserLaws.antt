@@ -11,9 +11,9 @@ use Rattle.std.specs.Cmp.Lexicographic.{slice_cmp}
 use Rattle.std.proofs.lemmas.Bool.{false≢true}
 use Rattle.std.proofs.lemmas.Cmp.{nat_list_cmp_total}
 use Rattle.asa_members.specs.declared.stating.Item.{Item}
-use Rattle.asa_objects.specs.Tables.{Entry, Table, entry_of, items_in, refers_to, same_name, user_of}
-use Rattle.asa_objects.specs.Ranks.{IsSound, Ranks, Uses, has_name, users_of}
-use Rattle.asa_objects.proofs.LabelLaws.{same-is, same-self}
+use Rattle.asa_values.specs.Tables.{Entry, Table, entry_of, items_in, refers_to, same_name, user_of}
+use Rattle.asa_ranks.specs.Ranks.{IsSound, Ranks, Uses, has_name, users_of}
+use Rattle.asa_values.proofs.LabelLaws.{same-is, same-self}
 
 -- a key that is looked up comes after the first
 after-first : (e : List ℕ × Entry) (es : Table) (u : List ℕ) (v : Entry) → AllByRecursion (λ k. slice_cmp nat_cmp e.0 k ≡ cmp.Less) (keys_of es) → lookup (is_at (slice_cmp nat_cmp u)) es ≡ Some v

@@ -4,12 +4,12 @@ use Rattle.asa_text.specs.declared.grouping.Block.{Block}
 use Rattle.asa_members.specs.declared.stating.Item.{Item}
 use Rattle.asa_members.specs.declared.topping.Top.{Top}
 use Rattle.asa_objects.specs.declared.defining.Drafted.{Drafted}
-use Rattle.asa_objects.specs.declared.drafting.Change.{Change}
-use Rattle.asa_objects.specs.declared.faults.ObjectFault.{ObjectFault}
-use Rattle.asa_objects.specs.declared.faults.ObjectFault.TheVariants as fault
-use Rattle.asa_objects.specs.Tables.{Table, items_of}
-use Rattle.asa_objects.specs.Defining.{after_lines, changed_by, inner_lines, lacks_value}
-use Rattle.asa_objects.specs.Marks.{AreFormer, AreNew, changed, standing}
+use Rattle.asa_values.specs.declared.drafting.Change.{Change}
+use Rattle.asa_values.specs.declared.faults.ObjectFault.{ObjectFault}
+use Rattle.asa_values.specs.declared.faults.ObjectFault.TheVariants as fault
+use Rattle.asa_values.specs.Tables.{Table, items_of}
+use Rattle.asa_values.specs.Defining.{after_lines, changed_by, inner_lines, lacks_value}
+use Rattle.asa_values.specs.Marks.{AreFormer, AreNew, changed, standing}
 
 -- the members after the lines
 abbrev pub drafted_by : Table → Block → Top → Result (List Item) ObjectFault

@@ -7,7 +7,7 @@ use Rattle.asa_members.specs.declared.blocking.BlockKind.TheVariants as block
 use Rattle.asa_members.specs.declared.blocking.GroupKind.TheVariants as group
 use Rattle.asa_objects.specs.declared.expanding.ExpandFault.{ExpandFault}
 use Rattle.asa_objects.specs.declared.expanding.ExpandFault.TheVariants as fault
-use Rattle.asa_objects.specs.Tables.{Entry, Table, entry_of, members_of, services_of_name}
+use Rattle.asa_values.specs.Tables.{Entry, Table, entry_of, members_of, services_of_name}
 
 -- a network object or a group of such
 abbrev pub has_members : BlockKind → Bool

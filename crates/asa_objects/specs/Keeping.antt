@@ -4,8 +4,8 @@ use Rattle.asa_text.specs.declared.grouping.Block.{Block}
 use Rattle.asa_text.specs.Words.{line_left}
 use Rattle.asa_members.specs.declared.topping.Top.{Top}
 use Rattle.asa_members.specs.Tops.{top_at}
-use Rattle.asa_objects.specs.Defining.{read_at, top_text}
-use Rattle.asa_objects.specs.Tables.{Table, members_of, services_of_name, reaches, same_name}
+use Rattle.asa_values.specs.Defining.{read_at, top_text}
+use Rattle.asa_values.specs.Tables.{Table, members_of, services_of_name, reaches, same_name}
 
 -- the name stands for the same in both tables
 abbrev pub IsKept : Table → Table → List ℕ → Type 0

@@ -7,8 +7,8 @@ use Rattle.asa_members.specs.declared.blocking.GroupKind.{GroupKind}
 use Rattle.asa_members.specs.Items.{item_services}
 use Rattle.asa_members.specs.declared.stating.Item.{Item}
 use Rattle.asa_objects.specs.declared.expanding.Rest.{Rest}
-use Rattle.asa_objects.specs.Spreads.{of_name, spread, total}
-use Rattle.asa_objects.specs.Tables.{Entry, Table, group_of, items_of, named, own_members, members_of, services_of_name}
+use Rattle.asa_values.specs.Spreads.{of_name, spread, total}
+use Rattle.asa_values.specs.Tables.{Entry, Table, group_of, items_of, named, own_members, members_of, services_of_name}
 
 -- what members give, each name in its place
 abbrev pub given_by : {X : Type 0} → (Item → List X) → (List ℕ → List X) → List Item → List X

@@ -4,12 +4,12 @@ use Rattle.std.specs.Map.{lookup}
 use Rattle.std.specs.BTreeMap.{is_at}
 use Rattle.std.specs.Ordering.{nat_cmp}
 use Rattle.std.specs.Cmp.Lexicographic.{slice_cmp}
-use Rattle.asa_objects.specs.Amounts.{Amounts}
+use Rattle.asa_ranks.specs.Amounts.{Amounts}
 use Rattle.asa_objects.specs.declared.summing.Renewed.{Renewed}
-use Rattle.asa_objects.specs.declared.faults.ObjectFault.{ObjectFault}
-use Rattle.asa_objects.specs.Tables.{Table, items_of, same_name}
-use Rattle.asa_objects.specs.Ranks.{Part, amount, Ranks, rank_of}
-use Rattle.asa_objects.specs.Totalling.{totals_in_rank, summed, times, AreMoved, IsRenewed, Overfills, AreSmall}
+use Rattle.asa_values.specs.declared.faults.ObjectFault.{ObjectFault}
+use Rattle.asa_values.specs.Tables.{Table, items_of, same_name}
+use Rattle.asa_ranks.specs.Ranks.{Part, amount, Ranks, rank_of}
+use Rattle.asa_ranks.specs.Totalling.{totals_in_rank, summed, times, AreMoved, IsRenewed, Overfills, AreSmall}
 
 -- the totals of names that refer to new ones, as far as these go
 abbrev pub Running : Type 0

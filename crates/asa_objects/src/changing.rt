@@ -1,32 +1,26 @@
 //! What is kept of names, as the members of one of them change. Each change is taken whole or not at all.
-ghost use Rattle.std.specs.Prelude.{◌≡◌, ℕ, List, [], ◌++◌, true, false, cond, Some, None, is_some, IfSome, IfErr, IfOk, OnOk, OnErr};
-ghost use Rattle.asa_objects.specs.declared.faults.ObjectFault.TheVariants as fault;
-ghost use Rattle.asa_objects.specs.Changing as spec;
-ghost use Rattle.asa_objects.specs.Graphs.{IsGraphKept};
-ghost use Rattle.asa_objects.specs.Marks.{AreFormer, AreNew, changed, standing};
-ghost use Rattle.asa_objects.specs.Ranks.{IsSound, both_totals, rank_of, refs_in};
-ghost use Rattle.asa_objects.specs.Reaching.{IsReach, IsReachKept};
-ghost use Rattle.asa_objects.specs.Tables.{entry_of, items_of, named, refers_to};
-ghost use Rattle.asa_objects.specs.Totalling.{totals_in_rank};
-ghost use Rattle.asa_objects.specs.Using.{AreUsed, AreUnused, unused_in};
-ghost use Rattle.asa_objects.specs.Weighing.{weights};
+ghost use Rattle.std.specs.Prelude.{◌≡◌, ◌++◌, true, Some, None, is_some, IfSome, IfErr, IfOk, OnOk, OnErr};
+ghost use Rattle.asa_values.specs.declared.faults.ObjectFault.TheVariants as fault;
+ghost use Rattle.asa_ranks.specs.Changing as spec;
+ghost use Rattle.asa_objects.specs.Effects.{HasEffects};
+ghost use Rattle.asa_ranks.specs.Graphs.{IsGraphKept};
+ghost use Rattle.asa_values.specs.Marks.{AreFormer, AreNew, changed, standing};
+ghost use Rattle.asa_ranks.specs.Ranks.{IsSound, both_totals, rank_of};
+ghost use Rattle.asa_ranks.specs.Reaching.{IsReach, IsReachKept};
+ghost use Rattle.asa_values.specs.Tables.{entry_of, items_of, named, refers_to, refs_in};
+ghost use Rattle.asa_ranks.specs.Totalling.{totals_in_rank};
+ghost use Rattle.asa_ranks.specs.Using.{AreUsed, AreUnused, unused_in};
+ghost use Rattle.asa_ranks.specs.Weighing.{weights};
 ghost use Rattle.std.specs.List.{AllByRecursion, list_any};
 ghost use Rattle.std.specs.Option.{option_to_list};
 
-use crate::drafting::Change;
-use crate::faults::ObjectFault;
-use crate::following::follow_all;
-use crate::graphing::move_graph;
-use crate::ordering::OrderedItems;
-use crate::ranking::{Rank, Totals, totals_of};
-use crate::reaching::Reach;
-use crate::renewing::{renewed_by, set_by};
-use crate::stepping::Steps;
-use crate::using::{add_uses, drop_uses, unused_of};
-use crate::valuing::{Stated, group_of, name_in};
-use crate::weighing::{weight_of_items, weight_of_slice};
 use asa_base::Name;
 use asa_members::{GroupKind, Item};
+use asa_ranks::{
+    Kept, Rank, Reach, Totals, add_uses, drop_uses, follow_all, move_graph, renewed_by, set_by,
+    totals_of, unused_of, weight_of_items, weight_of_slice,
+};
+use asa_values::{Change, ObjectFault, OrderedItems, Stated, group_of, name_in};
 use indexmap::IndexMap;
 use std::alloc::{AllocError, Global};
 use std::collections::{BTreeMap, BTreeSet};
@@ -57,19 +51,6 @@ fn note_refs(
             Err(error)
         }
     }
-}
-
-/// What is kept of the names of a table beside their values.
-#[derive(Debug, Drop)]
-pub(crate) struct Kept {
-    pub(crate) ranks: IndexMap<Name, Rank>,
-    pub(crate) uses: BTreeMap<Name, BTreeSet<Name>>,
-    /// The next label.
-    pub(crate) stamp: u64,
-    /// The names that reach some names that changed, as far as they are kept.
-    pub(crate) reach: Vec<Reach>,
-    /// The steps from each place to the names that refer to its name, as far as they are known.
-    pub(crate) graph: Vec<Steps>,
 }
 
 /// The value of a name that is there.
@@ -194,7 +175,7 @@ pub(crate) fn effect_of(
     change: &Change,
 ) -> Result<Effect, ObjectFault>
     requires { is_some (entry_of values.now.entries name.now) ≡ true }
-    ensures { spec.HasEffects values.now.entries ranks.now.entries name.now change.now.gone.keys change.now.added result }
+    ensures { HasEffects values.now.entries ranks.now.entries name.now change.now.gone.keys change.now.added result }
 {
     let stated = stated_of(values, name);
     // Only for the proof: what lists the members tells that none of them stands twice.
@@ -257,13 +238,13 @@ pub(crate) fn change_members(
     requires new { AreNew (standing (items_of values.old.entries reach.now.name) change.now.gone.keys) change.now.added }
     requires former { AreFormer (items_of values.old.entries reach.now.name) change.now.gone.keys }
     requires kept { IsReachKept values.old.entries kept.old.ranks.entries kept.old.reach.items }
-    requires graph { IsGraphKept values.old.entries kept.old.ranks.entries kept.old.graph.items }
+    requires graph { IsGraphKept values.old.entries kept.old.ranks.entries kept.old.graph }
     requires fits { AllByRecursion (λ i. spec.Fits values.old.entries reach.now.name (named i)) (changed (items_of values.old.entries reach.now.name) change.now.gone.keys change.now.added) }
     ensures sound { IsSound values.new.entries kept.new.ranks.entries kept.new.uses.entries kept.new.stamp }
     ensures answer { spec.Replaces values.old.entries values.new.entries (spec.changed_at values.old.entries reach.now.name change.now.gone.keys change.now.added) result }
     ensures reach { IsReach values.new.entries kept.new.ranks.entries reach.now }
     ensures kept { IsReachKept values.new.entries kept.new.ranks.entries kept.new.reach.items }
-    ensures graph { IsGraphKept values.new.entries kept.new.ranks.entries kept.new.graph.items }
+    ensures graph { IsGraphKept values.new.entries kept.new.ranks.entries kept.new.graph }
 {
     let name = &reach.name;
     let ways = reach.ways.as_slice();
@@ -287,41 +268,4 @@ pub(crate) fn copy_values(
     ensures { IfOk result (λ m. m.entries ≡ values.now.entries) }
 {
     values.clone()
-}
-
-/// A copy of the ranks.
-fn copy_ranks(ranks: &IndexMap<Name, Rank>) -> Result<IndexMap<Name, Rank>, AllocError>
-    ensures { IfOk result (λ m. m.entries ≡ ranks.now.entries) }
-{
-    ranks.clone()
-}
-
-/// A copy of the users of names.
-fn copy_uses(
-    uses: &BTreeMap<Name, BTreeSet<Name>>,
-) -> Result<BTreeMap<Name, BTreeSet<Name>>, AllocError>
-    ensures { IfOk result (λ m. spec.SameUsers uses.now.entries m.entries) }
-{
-    uses.clone()
-}
-
-impl Kept {
-    /// A copy, which keeps nothing of the names that reach one.
-    pub(crate) fn copy(&self, alloc: Global) -> Result<Kept, AllocError>
-        ensures ranks { IfOk result (λ k. k.ranks.entries ≡ self.now.ranks.entries) }
-        ensures uses { IfOk result (λ k. spec.SameUsers self.now.uses.entries k.uses.entries) }
-        ensures stamp { IfOk result (λ k. k.stamp ≡ self.now.stamp) }
-        ensures reach { IfOk result (λ k. k.reach.items ≡ []) }
-        ensures graph { IfOk result (λ k. k.graph.items ≡ []) }
-    {
-        let ranks = copy_ranks(&self.ranks)?;
-        let uses = copy_uses(&self.uses)?;
-        Ok(Kept {
-            ranks,
-            uses,
-            stamp: self.stamp,
-            reach: Vec::new(alloc),
-            graph: Vec::new(alloc),
-        })
-    }
 }

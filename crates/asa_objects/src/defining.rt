@@ -1,27 +1,22 @@
 //! A block changes the value of a name that is in the table.
 ghost use Rattle.std.specs.Prelude.{◌≡◌, ℕ, List, true, is_some, IsSomeAnd, None, Some};
-ghost use Rattle.asa_objects.specs.Defining as spec;
+ghost use Rattle.asa_values.specs.Defining as spec;
 ghost use Rattle.asa_objects.specs.Drafting as over;
-ghost use Rattle.asa_objects.specs.Graphs.{IsGraphKept};
-ghost use Rattle.asa_objects.specs.Marks.{changed};
-ghost use Rattle.asa_objects.specs.Ranks.{IsSound};
-ghost use Rattle.asa_objects.specs.Reaching.{IsReachKept, known};
-ghost use Rattle.asa_objects.specs.Tables.{entry_of, reaches};
+ghost use Rattle.asa_ranks.specs.Graphs.{IsGraphKept};
+ghost use Rattle.asa_values.specs.Marks.{changed};
+ghost use Rattle.asa_ranks.specs.Ranks.{IsSound};
+ghost use Rattle.asa_ranks.specs.Reaching.{IsReachKept, known};
+ghost use Rattle.asa_values.specs.Tables.{entry_of, reaches};
 
-use crate::changing::{Kept, change_members, stated_of};
-use crate::climbing::above;
-use crate::drafting::{Change, Draft};
-use crate::faults::ObjectFault;
-use crate::holding::{hold_reach, or_climbed, take_reach};
+use crate::changing::{change_members, stated_of};
 use crate::opening::{close_name, open_name};
-use crate::ordering::OrderedItems;
-use crate::reaching::set_of_names;
 use crate::resumming::change_summed;
 use crate::stating::{inner_lines, missing_column, take_lines};
-use crate::valuing::Stated;
 use asa_base::Name;
 use asa_members::{BlockKind, Top};
+use asa_ranks::{Kept, above, hold_reach, or_climbed, set_of_names, take_reach};
 use asa_text::Block;
+use asa_values::{Change, Draft, ObjectFault, OrderedItems, Stated};
 use indexmap::IndexMap;
 use std::alloc::Global;
 use std::collections::BTreeMap;
@@ -109,11 +104,11 @@ fn change_climbed(
     requires sound { IsSound values.old.entries kept.old.ranks.entries kept.old.uses.entries kept.old.stamp }
     requires there { IsSomeAnd (entry_of values.old.entries top.now.name) (λ e. e.block ≡ top.now.block) }
     requires reach { IsReachKept values.old.entries kept.old.ranks.entries kept.old.reach.items }
-    requires graph { IsGraphKept values.old.entries kept.old.ranks.entries kept.old.graph.items }
+    requires graph { IsGraphKept values.old.entries kept.old.ranks.entries kept.old.graph }
     ensures sound { IsSound values.new.entries kept.new.ranks.entries kept.new.uses.entries kept.new.stamp }
     ensures answer { spec.Defines result values.old.entries values.new.entries (spec.changed_by values.old.entries block.now top.now) }
     ensures reach { IsReachKept values.new.entries kept.new.ranks.entries kept.new.reach.items }
-    ensures graph { IsGraphKept values.new.entries kept.new.ranks.entries kept.new.graph.items }
+    ensures graph { IsGraphKept values.new.entries kept.new.ranks.entries kept.new.graph }
 {
     let names = above(
         alloc,
@@ -143,11 +138,11 @@ pub(crate) fn change_value(
     requires sound { IsSound values.old.entries kept.old.ranks.entries kept.old.uses.entries kept.old.stamp }
     requires there { IsSomeAnd (entry_of values.old.entries top.now.name) (λ e. e.block ≡ top.now.block) }
     requires reach { IsReachKept values.old.entries kept.old.ranks.entries kept.old.reach.items }
-    requires graph { IsGraphKept values.old.entries kept.old.ranks.entries kept.old.graph.items }
+    requires graph { IsGraphKept values.old.entries kept.old.ranks.entries kept.old.graph }
     ensures sound { IsSound values.new.entries kept.new.ranks.entries kept.new.uses.entries kept.new.stamp }
     ensures answer { spec.Defines result values.old.entries values.new.entries (spec.changed_by values.old.entries block.now top.now) }
     ensures reach { IsReachKept values.new.entries kept.new.ranks.entries kept.new.reach.items }
-    ensures graph { IsGraphKept values.new.entries kept.new.ranks.entries kept.new.graph.items }
+    ensures graph { IsGraphKept values.new.entries kept.new.ranks.entries kept.new.graph }
 {
     let known = take_reach(&mut kept.reach, &top.name);
     let Some(reach) = or_climbed(alloc, values, kept, &top.name, known) else {
@@ -170,11 +165,11 @@ fn define_new(
     requires sound { IsSound values.old.entries kept.old.ranks.entries kept.old.uses.entries kept.old.stamp }
     requires absent { entry_of values.old.entries top.now.name ≡ None }
     requires reach { IsReachKept values.old.entries kept.old.ranks.entries kept.old.reach.items }
-    requires graph { IsGraphKept values.old.entries kept.old.ranks.entries kept.old.graph.items }
+    requires graph { IsGraphKept values.old.entries kept.old.ranks.entries kept.old.graph }
     ensures sound { IsSound values.new.entries kept.new.ranks.entries kept.new.uses.entries kept.new.stamp }
     ensures answer { spec.Defines result values.old.entries values.new.entries (spec.changed_by (spec.begun values.old.entries top.now) block.now top.now) }
     ensures reach { IsReachKept values.new.entries kept.new.ranks.entries kept.new.reach.items }
-    ensures graph { IsGraphKept values.new.entries kept.new.ranks.entries kept.new.graph.items }
+    ensures graph { IsGraphKept values.new.entries kept.new.ranks.entries kept.new.graph }
 {
     open_name(alloc, values, kept, &top.name, top.block)?;
     let result = change_value(alloc, values, kept, block, top);
@@ -197,11 +192,11 @@ pub(crate) fn define_top(
 ) -> Result<(), ObjectFault>
     requires sound { IsSound values.old.entries kept.old.ranks.entries kept.old.uses.entries kept.old.stamp }
     requires reach { IsReachKept values.old.entries kept.old.ranks.entries kept.old.reach.items }
-    requires graph { IsGraphKept values.old.entries kept.old.ranks.entries kept.old.graph.items }
+    requires graph { IsGraphKept values.old.entries kept.old.ranks.entries kept.old.graph }
     ensures sound { IsSound values.new.entries kept.new.ranks.entries kept.new.uses.entries kept.new.stamp }
     ensures answer { spec.Defines result values.old.entries values.new.entries (spec.defined_by values.old.entries block.now top.now) }
     ensures reach { IsReachKept values.new.entries kept.new.ranks.entries kept.new.reach.items }
-    ensures graph { IsGraphKept values.new.entries kept.new.ranks.entries kept.new.graph.items }
+    ensures graph { IsGraphKept values.new.entries kept.new.ranks.entries kept.new.graph }
 {
     let Some(stated) = values.get(&top.name) else {
         return define_new(alloc, values, kept, block, top);

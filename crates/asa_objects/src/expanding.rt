@@ -1,17 +1,16 @@
 //! What names stand for: the members of a name in order, each name in them replaced in its place by its own members.
-ghost use Rattle.std.specs.Prelude.{◌≡◌, ℕ, ◌+◌, ◌<◌, ◌≤◌, suc, List, [], ◌∷◌, ◌++◌, length, not, nat_lt, IfOk, OnOk, OnErr};
+ghost use Rattle.std.specs.Prelude.{◌≡◌, ◌+◌, ◌<◌, ◌≤◌, suc, ◌++◌, length, not, nat_lt, IfOk, OnOk};
 ghost use Rattle.asa_members.specs.Items.{item_services};
 ghost use Rattle.asa_objects.specs.Expanding as spec;
-ghost use Rattle.asa_objects.specs.Ranks.{IsSound};
+ghost use Rattle.asa_ranks.specs.Ranks.{IsSound};
 ghost use Rattle.asa_objects.specs.Stacks as lists;
-ghost use Rattle.asa_objects.specs.Tables as table;
+ghost use Rattle.asa_values.specs.Tables as table;
 
-use crate::changing::Kept;
-use crate::ranking::totals_of;
-use crate::valuing::{Stated, group_of, name_in};
 use asa_base::{Member, Name, Service};
 use asa_members::{BlockKind, GroupKind, Item};
+use asa_ranks::{Kept, totals_of};
 use asa_text::Items;
+use asa_values::{Stated, group_of, name_in};
 use std::alloc::{AllocError, Global};
 use std::collections::BTreeMap;
 use std::collections::btree_map::Values;

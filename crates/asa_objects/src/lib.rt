@@ -3,34 +3,20 @@
 #![tactic(auto)]
 
 mod changing;
-mod climbing;
 mod defining;
-mod drafting;
 mod expanding;
-mod faults;
-mod following;
-mod graphing;
-mod holding;
-mod knowing;
 mod opening;
-mod ordering;
-mod ranking;
 #[cfg(test)]
 mod reach_tests;
-mod reaching;
-mod renewing;
+#[cfg(test)]
+mod removal_tests;
 mod resumming;
 mod stating;
-mod stepping;
 mod summing;
 mod tabling;
 #[cfg(test)]
 mod tests;
-mod totaling;
-mod using;
-mod valuing;
-mod weighing;
 
+pub use asa_values::ObjectFault;
 pub use expanding::ExpandFault;
-pub use faults::ObjectFault;
 pub use tabling::Objects;

@@ -1,20 +1,16 @@
 //! A name comes into the table, or goes.
 ghost use Rattle.std.specs.Prelude.{◌≡◌, ℕ, List, [], true, false, cond, Some, None, is_some, OnOk, OnErr};
 ghost use Rattle.std.specs.List.{list_any};
-ghost use Rattle.asa_objects.specs.Graphs.{IsGraphKept};
-ghost use Rattle.asa_objects.specs.Ranks as spec;
-ghost use Rattle.asa_objects.specs.Ranks.{IsSound, has_name, users_of};
-ghost use Rattle.asa_objects.specs.Reaching.{IsReachKept};
-ghost use Rattle.asa_objects.specs.Tables.{entry_of, items_of, refers_to, same_name, with_entry, without_name};
+ghost use Rattle.asa_ranks.specs.Graphs.{IsGraphKept};
+ghost use Rattle.asa_ranks.specs.Ranks as spec;
+ghost use Rattle.asa_ranks.specs.Ranks.{IsSound, has_name, users_of};
+ghost use Rattle.asa_ranks.specs.Reaching.{IsReachKept};
+ghost use Rattle.asa_values.specs.Tables.{entry_of, items_of, refers_to, same_name, with_entry, without_name};
 
-use crate::changing::Kept;
-use crate::graphing::grow_graph;
-use crate::holding::forget_reach;
-use crate::ranking::{Rank, Totals};
-use crate::using::drop_refs;
-use crate::valuing::Stated;
 use asa_base::Name;
 use asa_members::BlockKind;
+use asa_ranks::{Kept, Rank, Totals, close_graph, drop_refs, forget_reach, grow_graph};
+use asa_values::Stated;
 use std::alloc::{AllocError, Global};
 use std::collections::{BTreeMap, BTreeSet};
 
@@ -39,12 +35,12 @@ pub(crate) fn open_name(
     requires sound { IsSound values.old.entries kept.old.ranks.entries kept.old.uses.entries kept.old.stamp }
     requires absent { entry_of values.old.entries name.now ≡ None }
     requires reach { IsReachKept values.old.entries kept.old.ranks.entries kept.old.reach.items }
-    requires graph { IsGraphKept values.old.entries kept.old.ranks.entries kept.old.graph.items }
+    requires graph { IsGraphKept values.old.entries kept.old.ranks.entries kept.old.graph }
     ensures sound { IsSound values.new.entries kept.new.ranks.entries kept.new.uses.entries kept.new.stamp }
     ensures ok { OnOk result (values.new.entries ≡ with_entry values.old.entries name.now (record { block = block; items = [] })) }
     ensures err { OnErr result (values.new.entries ≡ values.old.entries) }
     ensures reach { IsReachKept values.new.entries kept.new.ranks.entries kept.new.reach.items }
-    ensures graph { IsGraphKept values.new.entries kept.new.ranks.entries kept.new.graph.items }
+    ensures graph { IsGraphKept values.new.entries kept.new.ranks.entries kept.new.graph }
 {
     let Some(next) = kept.stamp.checked_add(1) else {
         return Err(AllocError);
@@ -73,23 +69,26 @@ fn forget_users(uses: &mut BTreeMap<Name, BTreeSet<Name>>, name: &Name)
 }
 
 /// Takes out a name that no name refers to. What is kept of the names that reach others stays, but for those that it reaches, and
-/// for those that the last one reaches, whose rank takes its place.
+/// for those that the last one reaches, whose rank takes its place. The steps between names follow, or are forgotten where
+/// memory runs out; only those from names to which it refers are looked at.
 pub(crate) fn close_name(values: &mut BTreeMap<Name, Stated>, kept: &mut Kept, name: &Name) -> bool
     requires sound { IsSound values.old.entries kept.old.ranks.entries kept.old.uses.entries kept.old.stamp }
     requires unused { (q : List ℕ) → list_any (refers_to name.now) (items_of values.old.entries q) ≡ false }
     requires reach { IsReachKept values.old.entries kept.old.ranks.entries kept.old.reach.items }
+    requires graph { IsGraphKept values.old.entries kept.old.ranks.entries kept.old.graph }
     ensures found { result ≡ is_some (entry_of values.old.entries name.now) }
     ensures value { values.new.entries ≡ without_name values.old.entries name.now }
     ensures sound { IsSound values.new.entries kept.new.ranks.entries kept.new.uses.entries kept.new.stamp }
     ensures reach { IsReachKept values.new.entries kept.new.ranks.entries kept.new.reach.items }
-    ensures graph { IsGraphKept values.new.entries kept.new.ranks.entries kept.new.graph.items }
+    ensures graph { IsGraphKept values.new.entries kept.new.ranks.entries kept.new.graph }
 {
     forget_reach(kept, name);
-    kept.graph.clear();
     let Some(former) = values.remove(name) else {
         return false;
     };
-    drop_refs(&mut kept.uses, former.items(), name);
+    let items = former.items();
+    close_graph(values, &kept.ranks, &mut kept.graph, name, items);
+    drop_refs(&mut kept.uses, items, name);
     forget_users(&mut kept.uses, name);
     kept.ranks.swap_remove(name);
     true

@@ -9,7 +9,7 @@ use crate::{ObjectFault, Objects};
 use std::process::Abort;
 
 /// Asserts how many members I, O, P and Q have.
-fn assert_counts(rt: &impl Abort, objects: &Objects, counts: [u64; 4]) {
+pub(crate) fn assert_counts(rt: &impl Abort, objects: &Objects, counts: [u64; 4]) {
     let [i, o, p, q] = counts;
     assert_members(rt, objects, b"I", i);
     assert_members(rt, objects, b"O", o);
@@ -87,7 +87,7 @@ fn further_blocks_of_a_group_count_in_each_way_to_it(rt: HostRuntime) {
 }
 
 /// The members of O: I and 65,535 others, since the group aN has 2 to the N members.
-fn fill(rt: &(impl Abort + AllocGlobal), objects: &mut Objects) {
+pub(crate) fn fill(rt: &(impl Abort + AllocGlobal), objects: &mut Objects) {
     assert_taken(
         rt,
         objects,
@@ -96,7 +96,7 @@ fn fill(rt: &(impl Abort + AllocGlobal), objects: &mut Objects) {
 }
 
 /// Groups of which aN has 2 to the N members, and one more.
-fn almost_full(rt: &(impl Abort + AllocGlobal), more: &[u8]) -> Objects
+pub(crate) fn almost_full(rt: &(impl Abort + AllocGlobal), more: &[u8]) -> Objects
     requires { length more.now < 2 ^ 31 }
 {
     let mut objects = levels(rt, 15, b"\n network-object host 10.0.0.1");
@@ -105,7 +105,7 @@ fn almost_full(rt: &(impl Abort + AllocGlobal), more: &[u8]) -> Objects
 }
 
 /// Asserts that I has one member, with which O is full, and that one more is refused.
-fn assert_full(rt: &(impl Abort + AllocGlobal), objects: &mut Objects, number: u8) {
+pub(crate) fn assert_full(rt: &(impl Abort + AllocGlobal), objects: &mut Objects, number: u8) {
     assert_refused(
         rt,
         objects,

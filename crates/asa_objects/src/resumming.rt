@@ -3,20 +3,18 @@
 ghost use Rattle.std.specs.Prelude.{◌≡◌, ℕ, List, true, false, cond, Some, is_some, OnErr};
 ghost use Rattle.std.specs.List.{AllByRecursion};
 ghost use Rattle.std.specs.Map.{keys_of};
-ghost use Rattle.asa_objects.specs.Changing as spec;
-ghost use Rattle.asa_objects.specs.Climbing.{IsAbove};
-ghost use Rattle.asa_objects.specs.Marks.{AreFormer, AreNew, changed, standing};
-ghost use Rattle.asa_objects.specs.Ranks.{IsSound, has_name, rank_of};
-ghost use Rattle.asa_objects.specs.Tables.{entry_of, items_of, named, same_name};
-ghost use Rattle.asa_objects.specs.Totalling.{newer};
+ghost use Rattle.asa_ranks.specs.Changing as spec;
+ghost use Rattle.asa_ranks.specs.Climbing.{IsAbove};
+ghost use Rattle.asa_values.specs.Marks.{AreFormer, AreNew, changed, standing};
+ghost use Rattle.asa_ranks.specs.Ranks.{IsSound, has_name, rank_of};
+ghost use Rattle.asa_values.specs.Tables.{entry_of, items_of, named, same_name};
+ghost use Rattle.asa_ranks.specs.Totalling.{newer};
 
-use crate::changing::{Kept, effect_of, take_effect};
-use crate::drafting::Change;
-use crate::faults::ObjectFault;
-use crate::ranking::{Rank, place_of, set_rank_at};
+use crate::changing::{effect_of, take_effect};
 use crate::summing::renew;
-use crate::valuing::Stated;
 use asa_base::Name;
+use asa_ranks::{Kept, Rank, place_of, set_rank_at};
+use asa_values::{Change, ObjectFault, Stated};
 use indexmap::IndexMap;
 use std::alloc::Global;
 use std::collections::BTreeMap;
@@ -77,7 +75,7 @@ pub(crate) fn change_summed(
     ensures keys { keys_of kept.new.ranks.entries ≡ keys_of kept.old.ranks.entries }
     ensures ranks { OnErr result (kept.new.ranks.entries ≡ kept.old.ranks.entries) }
     ensures reach { kept.new.reach.items ≡ kept.old.reach.items }
-    ensures graph { kept.new.graph.items ≡ kept.old.graph.items }
+    ensures graph { kept.new.graph ≡ kept.old.graph }
 {
     let effect = effect_of(alloc, values, &kept.ranks, name, change)?;
     let renewed = renew(alloc, values, kept, name, effect.totals, names)?;

@@ -3,18 +3,15 @@ ghost use Rattle.std.specs.Prelude.{◌≡◌, ℕ, ◌+◌, ◌^◌, ◌-◌, �
 ghost use Rattle.asa_text.specs.Words.{line_left};
 ghost use Rattle.asa_members.specs.Groups.{statement_at};
 ghost use Rattle.asa_members.specs.Tops.{top_at};
-ghost use Rattle.asa_objects.specs.Defining as spec;
-ghost use Rattle.asa_objects.specs.Marks.{marked};
-ghost use Rattle.asa_objects.specs.Reaching.{known};
-ghost use Rattle.asa_objects.specs.Tables.{known_of, reaches};
+ghost use Rattle.asa_values.specs.Defining as spec;
+ghost use Rattle.asa_values.specs.Marks.{marked};
+ghost use Rattle.asa_ranks.specs.Reaching.{known};
+ghost use Rattle.asa_values.specs.Tables.{known_of, reaches};
 
-use crate::drafting::{Draft, item_of_value};
-use crate::faults::ObjectFault;
-use crate::knowing::Standing;
-use crate::valuing::{Stated, name_in};
 use asa_base::Name;
 use asa_members::{BlockKind, Item, Statement, Top, read_statement, read_top};
 use asa_text::{Block, Line, LineFault, Words};
+use asa_values::{Draft, ObjectFault, Standing, Stated, item_of_value, name_in};
 use indexmap::IndexMap;
 use std::alloc::Global;
 use std::collections::BTreeMap;
@@ -162,7 +159,7 @@ fn take_line(
 }
 
 /// The members of a name after the indented lines of its block.
-#[tactic(auto, unfolding(crate::specs::Defining::after_lines))]
+#[tactic(auto, unfolding(asa_values::specs::Defining::after_lines))]
 pub(crate) fn take_lines(
     alloc: Global,
     values: &BTreeMap<Name, Stated>,

@@ -4,18 +4,15 @@ ghost use Rattle.std.specs.Prelude.{◌≡◌, ℕ, List, true, false, cond, Som
 ghost use Rattle.std.specs.List.Sorted.{IsStrictlySortedBy};
 ghost use Rattle.std.specs.Ordering.{nat_cmp};
 ghost use Rattle.std.specs.Cmp.Lexicographic.{slice_cmp};
-ghost use Rattle.asa_objects.specs.declared.faults.ObjectFault.TheVariants as fault;
-ghost use Rattle.asa_objects.specs.Ranks as spec;
+ghost use Rattle.asa_values.specs.declared.faults.ObjectFault.TheVariants as fault;
+ghost use Rattle.asa_ranks.specs.Ranks as spec;
 ghost use Rattle.asa_objects.specs.Summing as sum;
-ghost use Rattle.asa_objects.specs.Tables.{Table, items_of, same_name};
-ghost use Rattle.asa_objects.specs.Totalling as total;
+ghost use Rattle.asa_values.specs.Tables.{Table, items_of, same_name};
+ghost use Rattle.asa_ranks.specs.Totalling as total;
 
-use crate::changing::Kept;
-use crate::faults::ObjectFault;
-use crate::ranking::{Rank, Totals, totals_of};
-use crate::totaling::{is_same, limited, next_label, times_at};
-use crate::valuing::Stated;
 use asa_base::Name;
+use asa_ranks::{Kept, Rank, Totals, is_same, limited, next_label, times_at, totals_of};
+use asa_values::{ObjectFault, Stated};
 use indexmap::IndexMap;
 use std::alloc::Global;
 use std::collections::{BTreeMap, BTreeSet};

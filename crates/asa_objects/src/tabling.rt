@@ -1,26 +1,23 @@
 //! The table of objects and groups.
-ghost use Rattle.std.specs.Prelude.{◌≡◌, ℕ, ◌+◌, ◌≤◌, List, [], ◌∷◌, true, false, is_some, None, Some, length, sum_by, OnOk, OnErr, IfOk};
-ghost use Rattle.asa_objects.specs.Defining as spec;
+ghost use Rattle.std.specs.Prelude.{◌≡◌, ℕ, ◌≤◌, List, [], ◌∷◌, true, is_some, None, Some, length, sum_by, OnOk, IfOk};
+ghost use Rattle.asa_values.specs.Defining as spec;
 ghost use Rattle.asa_objects.specs.Expanding as expanding;
 ghost use Rattle.asa_objects.specs.Keeping.{ForName, KeepsOthers, KeepsRest};
-ghost use Rattle.asa_objects.specs.Ranks.{IsSound, has_name, rank_of};
+ghost use Rattle.asa_ranks.specs.Ranks.{IsSound, has_name, rank_of};
 ghost use Rattle.asa_base.specs.Prefixes.{member_prefix_count};
-ghost use Rattle.asa_objects.specs.Tables as table;
+ghost use Rattle.asa_values.specs.Tables as table;
 
-use crate::changing::{Kept, copy_values};
-use crate::climbing::above;
+use crate::changing::copy_values;
 use crate::defining::define_top;
 use crate::expanding::{ExpandFault, expand_network, expand_service, list_members, list_services};
-use crate::faults::ObjectFault;
-use crate::holding::{hold_reach, or_climbed, take_reach};
-use crate::knowing::{kind_in, port_proto_in, service_range_in};
 use crate::opening::close_name;
-use crate::ranking::totals_of;
 use crate::stating::top_of;
-use crate::using::first_user;
-use crate::valuing::Stated;
 use asa_base::{Kind, Member, Name, PortProto, Service};
+use asa_ranks::{
+    Graph, Kept, above, first_user, hold_reach, listed_names, or_climbed, take_reach, totals_of,
+};
 use asa_text::{Block, Items, Shared};
+use asa_values::{ObjectFault, Stated, kind_in, port_proto_in, service_range_in};
 use indexmap::IndexMap;
 use std::alloc::{AllocError, Global};
 use std::collections::BTreeMap;
@@ -36,16 +33,16 @@ pub struct Objects {
 }
 
 impl Model for Objects {
-    ghost use Rattle.asa_objects.specs.Tables.{Table};
-    ghost use Rattle.asa_objects.specs.Graphs.{IsGraphKept};
-    ghost use Rattle.asa_objects.specs.Ranks.{IsSound};
-    ghost use Rattle.asa_objects.specs.Reaching.{IsReachKept};
+    ghost use Rattle.asa_values.specs.Tables.{Table};
+    ghost use Rattle.asa_ranks.specs.Graphs.{IsGraphKept};
+    ghost use Rattle.asa_ranks.specs.Ranks.{IsSound};
+    ghost use Rattle.asa_ranks.specs.Reaching.{IsReachKept};
 
     ghost Value = { Table };
 
     ghost view = { λ o. o.values.entries };
 
-    ghost invariant = { λ o. IsSound o.values.entries o.kept.ranks.entries o.kept.uses.entries o.kept.stamp × IsReachKept o.values.entries o.kept.ranks.entries o.kept.reach.items × IsGraphKept o.values.entries o.kept.ranks.entries o.kept.graph.items };
+    ghost invariant = { λ o. IsSound o.values.entries o.kept.ranks.entries o.kept.uses.entries o.kept.stamp × IsReachKept o.values.entries o.kept.ranks.entries o.kept.reach.items × IsGraphKept o.values.entries o.kept.ranks.entries o.kept.graph };
 }
 
 /// A name alone.
@@ -84,7 +81,7 @@ impl Objects {
                 uses: BTreeMap::new(alloc),
                 stamp: 1,
                 reach: Vec::new(alloc),
-                graph: Vec::new(alloc),
+                graph: Graph::new(alloc),
             },
             alloc,
         }
@@ -220,11 +217,11 @@ impl Objects {
             return only_name(alloc, &top.name);
         }
         let known = take_reach(&mut self.kept.reach, &top.name);
-        let Some(reach) = or_climbed(self.alloc, &self.values, &mut self.kept, &top.name, known)
+        let Some(mut reach) = or_climbed(self.alloc, &self.values, &mut self.kept, &top.name, known)
         else {
             return above_of(alloc, &self.values, &self.kept, &top.name);
         };
-        let names = reach.names.share()?;
+        let names = listed_names(alloc, &mut reach)?;
         hold_reach(&mut self.kept.reach, reach);
         Ok(names)
     }
@@ -232,7 +229,7 @@ impl Objects {
     /// Takes a block of an object or of a group, as a whole or not at all. The first line defines its name for the lines
     /// after it. Lines `nat ..` and `no nat ..` of a network object aren't built yet. After a refusal, and where memory runs
     /// out, the table is as before.
-    #[tactic(auto, unfolding(crate::specs::Defining::defined))]
+    #[tactic(auto, unfolding(asa_values::specs::Defining::defined))]
     pub fn define(&mut self, block: &Block) -> Result<(), ObjectFault>
         ensures value { spec.Defines result self.old self.new (spec.defined self.old block.now) }
         ensures kept { OnOk result (KeepsOthers self.old self.new block.now) }

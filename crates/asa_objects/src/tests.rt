@@ -87,6 +87,21 @@ fn assert_has_name(rt: &impl Abort, names: &[Name], text: &[u8]) {
     assert!(rt; names.contains(&name));
 }
 
+/// Asserts that so many names reach what the first block of a text defines, of which this is one.
+pub(crate) fn assert_reached(
+    rt: &(impl Abort + AllocGlobal),
+    objects: &mut Objects,
+    text: &[u8],
+    count: usize,
+    name: &[u8],
+)
+    requires { length text.now < 2 ^ 31 }
+{
+    let names = reaching(rt, objects, text);
+    assert_eq!(rt; names.get().len(), count);
+    assert_has_name(rt, names.get().as_slice(), name);
+}
+
 /// Asserts how many members a name has.
 pub(crate) fn assert_members(rt: &impl Abort, objects: &Objects, text: &[u8], count: u64) {
     let name = name(rt, text);

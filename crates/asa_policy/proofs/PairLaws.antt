@@ -6,7 +6,7 @@ use Rattle.std.proofs.lemmas.Option.{slice_get_within, slice_get-get_or}
 use Rattle.asa_acl.specs.Lists.{AccessLines}
 use Rattle.asa_boxes.specs.Meanings.{Meanings}
 use Rattle.asa_boxes.specs.Pairs.{list_pairs}
-use Rattle.asa_config.specs.Knowing.{pairs_of_lists}
+use Rattle.asa_lists.specs.Knowing.{pairs_of_lists}
 
 one_of : (f : AccessLines → ℕ) (ls : List AccessLines) (n : ℕ) (l : AccessLines) → slice_get ls n ≡ Some l → f l ≤ sum_by f ls
 one_of f [] n l e = absurd (cc)

@@ -1,7 +1,7 @@
 -- The texts of refusals, and the lines that tell of them.
 use Rattle.std.specs.Prelude.{ℕ, List, ◌++◌, codes, decimal}
-use Rattle.asa_config.specs.declared.refusing.EditFault.{EditFault}
-use Rattle.asa_config.specs.declared.refusing.EditFault.TheVariants as fault
+use Rattle.asa_classes.specs.declared.refusing.EditFault.{EditFault}
+use Rattle.asa_classes.specs.declared.refusing.EditFault.TheVariants as fault
 use Rattle.asa_session.specs.declared.scripting.SessionKind.{SessionKind}
 use Rattle.asa_session.specs.declared.scripting.SessionKind.TheVariants as kind
 

@@ -3,8 +3,8 @@ use Rattle.std.proofs.Common.{◌≡◌, ℕ, ◌+◌, ◌≤◌, Bool, true, fa
 use Rattle.std.specs.List.{fold}
 use Rattle.std.proofs.lemmas.Bool.Decides.{nat_tests}
 use Rattle.asa_text.specs.declared.grouping.Block.{Block}
-use Rattle.asa_config.specs.declared.refusing.EditRefusal.{EditRefusal}
-use Rattle.asa_config.specs.declared.refusing.EditRefusal.TheVariants as refusal
+use Rattle.asa_classes.specs.declared.refusing.EditRefusal.{EditRefusal}
+use Rattle.asa_classes.specs.declared.refusing.EditRefusal.TheVariants as refusal
 use Rattle.asa_config.specs.Settings.{Settings}
 use Rattle.asa_config.specs.Steps.{step, after_block}
 use Rattle.asa_session.specs.declared.scripting.SessionError.{SessionError}

@@ -2,11 +2,11 @@
 use Rattle.std.specs.Prelude.{ℕ, ◌-◌, Bool, true, false, not, List, [], ◌∷◌, filter, count_by, Option, Some, None, slice_get, Result, Ok, Err, if◌then◌else◌}
 use Rattle.asa_text.specs.declared.lining.Line.{Line}
 use Rattle.asa_text.specs.declared.grouping.Block.{Block}
-use Rattle.asa_config.specs.declared.refusing.EditRefusal.{EditRefusal}
-use Rattle.asa_config.specs.declared.refusing.EditRefusal.TheVariants as refusal
-use Rattle.asa_config.specs.declared.classing.Class.{Class}
-use Rattle.asa_config.specs.declared.classing.Class.TheVariants.{Passed}
-use Rattle.asa_config.specs.Classes.{class_of}
+use Rattle.asa_classes.specs.declared.refusing.EditRefusal.{EditRefusal}
+use Rattle.asa_classes.specs.declared.refusing.EditRefusal.TheVariants as refusal
+use Rattle.asa_classes.specs.declared.classing.Class.{Class}
+use Rattle.asa_classes.specs.declared.classing.Class.TheVariants.{Passed}
+use Rattle.asa_classes.specs.Classes.{class_of}
 use Rattle.asa_config.specs.Settings.{Settings}
 use Rattle.asa_config.specs.Steps.{step}
 use Rattle.asa_session.specs.declared.scripting.SessionKind.TheVariants.{Startup}

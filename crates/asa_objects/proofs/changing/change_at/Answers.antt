@@ -1,7 +1,7 @@
 use Rattle.std.proofs.Common.{sym}
-use Rattle.asa_objects.proofs.PutLaws.{change-put, change-kept}
+use Rattle.asa_ranks.proofs.PutLaws.{change-put, change-kept}
 use Rattle.asa_objects.proofs.StackLaws.{on-ok}
-use Rattle.asa_objects.proofs.UseLaws.{on-error}
+use Rattle.asa_ranks.proofs.UseLaws.{on-error}
 use Rattle.asa_objects.proofs.changing.change_at.Goals as goal
 
 pub returns-clause-ok : goal.returns-clause-ok

@@ -1,17 +1,17 @@
 use Rattle.std.proofs.Common.{◌≡◌, List, length, Result, Ok, Err, rules, sym, subst, ap, ◌∙◌}
 use Rattle.std.specs.List.{AllByRecursion}
-use Rattle.asa_objects.specs.declared.ranking.Rank.{Rank}
-use Rattle.asa_objects.specs.declared.faults.ObjectFault.{ObjectFault}
-use Rattle.asa_objects.specs.Changing.{Replaces, changed_at}
-use Rattle.asa_objects.specs.Ranks.{IsSound, rank_of}
-use Rattle.asa_objects.specs.Reaching.{AreApart, AreTimes, IsPlaced, RenewsBy, names_in, ranks_by}
-use Rattle.asa_objects.specs.Tables.{Table}
-use Rattle.asa_objects.specs.Totalling.{IsRenewed, IsTold, Overfills, newer}
-use Rattle.asa_objects.specs.Using.{AreUsed, AreUnused, unused_in}
-use Rattle.asa_objects.proofs.WayLaws.{rises-apart}
-use Rattle.asa_objects.proofs.FollowLaws.{own-stays}
-use Rattle.asa_objects.proofs.MoveLaws.{move-told, move-refused, move-sound}
-use Rattle.asa_objects.proofs.ReplaceLaws.{sound-users}
+use Rattle.asa_ranks.specs.declared.ranking.Rank.{Rank}
+use Rattle.asa_values.specs.declared.faults.ObjectFault.{ObjectFault}
+use Rattle.asa_ranks.specs.Changing.{Replaces, changed_at}
+use Rattle.asa_ranks.specs.Ranks.{IsSound, rank_of}
+use Rattle.asa_ranks.specs.Reaching.{AreApart, AreTimes, IsPlaced, RenewsBy, names_in, ranks_by}
+use Rattle.asa_values.specs.Tables.{Table}
+use Rattle.asa_ranks.specs.Totalling.{IsRenewed, IsTold, Overfills, newer}
+use Rattle.asa_ranks.specs.Using.{AreUsed, AreUnused, unused_in}
+use Rattle.asa_ranks.proofs.WayLaws.{rises-apart}
+use Rattle.asa_ranks.proofs.FollowLaws.{own-stays}
+use Rattle.asa_ranks.proofs.MoveLaws.{move-told, move-refused, move-sound}
+use Rattle.asa_ranks.proofs.ReplaceLaws.{sound-users}
 use Rattle.asa_objects.proofs.changing.change_members.Goals as goal
 
 pub returns-in_err-renewed-clause-answer : goal.returns-in_err-renewed-clause-answer

@@ -1,7 +1,7 @@
 use Rattle.std.proofs.Common.{◌≡◌, ◌++◌, drop}
-use Rattle.asa_objects.specs.Changing.{freed_among}
-use Rattle.asa_objects.specs.Marks.{changed}
-use Rattle.asa_objects.specs.Ranks.{refs_in}
+use Rattle.asa_ranks.specs.Changing.{freed_among}
+use Rattle.asa_values.specs.Marks.{changed}
+use Rattle.asa_values.specs.Tables.{refs_in}
 use Rattle.asa_objects.proofs.changing.freed_by.Given as goal
 
 abbrev pub invariant-loop-item : goal.invariant-loop-item

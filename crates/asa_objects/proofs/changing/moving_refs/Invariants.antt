@@ -1,6 +1,6 @@
 use Rattle.std.proofs.Common.{◌≡◌, ◌++◌, drop}
-use Rattle.asa_objects.specs.Changing.{moving}
-use Rattle.asa_objects.specs.Ranks.{refs_in}
+use Rattle.asa_ranks.specs.Changing.{moving}
+use Rattle.asa_values.specs.Tables.{refs_in}
 use Rattle.asa_objects.proofs.changing.moving_refs.Given as goal
 
 abbrev pub invariant-loop-item : goal.invariant-loop-item

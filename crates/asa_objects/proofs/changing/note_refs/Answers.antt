@@ -1,6 +1,6 @@
 use Rattle.std.proofs.Common.{subst}
-use Rattle.asa_objects.specs.Using.{AreUnused, IsPartUsed}
-use Rattle.asa_objects.proofs.ToldLaws.{unused-again}
+use Rattle.asa_ranks.specs.Using.{AreUnused, IsPartUsed}
+use Rattle.asa_ranks.proofs.ToldLaws.{unused-again}
 use Rattle.asa_objects.proofs.changing.note_refs.Goals as goal
 
 pub returns-in-Err-clause-err : goal.returns-in-Err-clause-err

@@ -1,5 +1,5 @@
 use Rattle.std.proofs.Common.{◌≡◌, ◌++◌}
-use Rattle.asa_objects.specs.Ranks.{refs_in}
+use Rattle.asa_values.specs.Tables.{refs_in}
 use Rattle.asa_objects.proofs.changing.refs_of.Given as goal
 
 abbrev pub invariant-loop-item : goal.invariant-loop-item

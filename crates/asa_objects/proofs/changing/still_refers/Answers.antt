@@ -1,8 +1,8 @@
 use Rattle.std.proofs.Common.{◌||◌, ◌∙◌, sym, ap}
-use Rattle.asa_objects.specs.Defining.{has_item}
-use Rattle.asa_objects.specs.Marks.{changed}
+use Rattle.asa_values.specs.Defining.{has_item}
+use Rattle.asa_values.specs.Marks.{changed}
 use Rattle.asa_members.specs.declared.stating.Item.TheVariants as item
-use Rattle.asa_objects.proofs.EffectLaws.{refs-has}
+use Rattle.asa_ranks.proofs.EffectLaws.{refs-has}
 use Rattle.asa_objects.proofs.changing.still_refers.Goals as goal
 
 pub returns-then-leaves : goal.returns-then-leaves

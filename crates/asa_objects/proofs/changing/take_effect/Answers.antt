@@ -1,6 +1,6 @@
 use Rattle.std.proofs.Common.{sym, subst}
-use Rattle.asa_objects.specs.Using.{AreUsed, AreUnused, unused_in}
-use Rattle.asa_objects.proofs.ToldLaws.{unused-again, used-part}
+use Rattle.asa_ranks.specs.Using.{AreUsed, AreUnused, unused_in}
+use Rattle.asa_ranks.proofs.ToldLaws.{unused-again, used-part}
 use Rattle.asa_objects.proofs.changing.take_effect.Goals as goal
 
 pub returns-in-Ok-clause-users : goal.returns-in-Ok-clause-users

@@ -1,9 +1,9 @@
 use Rattle.std.proofs.Common.{◌≡◌, Result, Ok, Err, rules, sym, subst, ap, ◌∙◌}
 use Rattle.std.proofs.lemmas.Result.{err_from_is_err_and}
-use Rattle.asa_objects.specs.declared.faults.ObjectFault.{ObjectFault}
-use Rattle.asa_objects.specs.Defining.{Defines, changed_by}
+use Rattle.asa_values.specs.declared.faults.ObjectFault.{ObjectFault}
+use Rattle.asa_values.specs.Defining.{Defines, changed_by}
 use Rattle.asa_objects.specs.Drafting.{after_change}
-use Rattle.asa_objects.specs.Ranks.{has_name}
+use Rattle.asa_ranks.specs.Ranks.{has_name}
 use Rattle.asa_objects.proofs.DefineLaws.{read-refused, read-replaced}
 use Rattle.asa_objects.proofs.FitLaws.{drafted-fit}
 use Rattle.asa_objects.proofs.defining.change_climbed.Goals as goal

@@ -1,15 +1,16 @@
 use Rattle.std.proofs.Common.{◌≡◌, ℕ, List, Result, Ok, Err, is_some, rules, sym, subst, ap, ◌∙◌}
 use Rattle.std.specs.List.{AllByRecursion}
-use Rattle.asa_objects.specs.declared.faults.ObjectFault.{ObjectFault}
-use Rattle.asa_objects.specs.Changing.{Fits, Replaces, changed_at}
-use Rattle.asa_objects.specs.Defining.{Defines, changed_by}
+use Rattle.std.proofs.lemmas.Result.{err_from_is_err_and}
+use Rattle.asa_values.specs.declared.faults.ObjectFault.{ObjectFault}
+use Rattle.asa_ranks.specs.Changing.{Fits, Replaces, changed_at}
+use Rattle.asa_values.specs.Defining.{Defines, changed_by}
 use Rattle.asa_objects.specs.Drafting.{after_change}
-use Rattle.asa_objects.specs.Marks.{changed}
-use Rattle.asa_objects.specs.Tables.{items_of, named, reaches}
+use Rattle.asa_values.specs.Marks.{changed}
+use Rattle.asa_values.specs.Tables.{items_of, named, reaches}
 use Rattle.asa_objects.proofs.DefineLaws.{read-refused, read-replaced}
 use Rattle.asa_objects.proofs.FitLaws.{drafted-fit}
-use Rattle.asa_objects.proofs.FrameLaws.{fault-is, kept-stays}
-use Rattle.asa_objects.proofs.WayLaws.{found-has}
+use Rattle.asa_objects.proofs.FrameLaws.{kept-stays}
+use Rattle.asa_ranks.proofs.WayLaws.{found-has}
 use Rattle.asa_objects.proofs.defining.change_value.Goals as goal
 
 pub change_climbed-requires-clause-reach : goal.change_climbed-requires-clause-reach
@@ -40,8 +41,8 @@ change_members-requires-clause-fits c =
 
 pub returns-in_err-change_members-clause-answer : goal.returns-in_err-change_members-clause-answer
 returns-in_err-change_members-clause-answer c =
-    let same : c.from_residual-in_err-change_members.result ≡ Err c.in_err-change_members.field-0.0 =
-    fault-is c.from_residual-in_err-change_members.result c.in_err-change_members.field-0.0 c.from_residual-in_err-change_members.ensures.1 in
+    let told = err_from_is_err_and c.from_residual-in_err-change_members.result c.from_residual-in_err-change_members.ensures.1 in
+    let same : c.from_residual-in_err-change_members.result ≡ Err c.in_err-change_members.field-0.0 = told.1 ∙ ap Err told.2 in
     subst (λ (r : Result (Unit {0}) ObjectFault). Defines r c.args.values.now.entries c.change_members.new.values.entries (changed_by c.args.values.now.entries c.args.block.now c.args.top.now)) (sym same)
     (read-replaced c.args.values.now.entries c.args.block.now c.args.top.now c.in_ok-change.change c.in_ok-change.ensures c.requires.there
     c.change_members.new.kept.ranks.entries c.change_members.new.kept.uses.entries c.change_members.new.kept.stamp c.change_members.new.values.entries (Err c.in_err-change_members.field-0.0) c.in_err-change_members.ensures.sound

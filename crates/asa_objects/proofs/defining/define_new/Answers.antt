@@ -1,10 +1,10 @@
 use Rattle.std.proofs.Common.{◌≡◌, [], cond, Option, Some, IsSomeAnd, Err, refl, sym, subst, ap, ◌∙◌}
 use Rattle.std.specs.List.{list_any}
-use Rattle.asa_objects.specs.Tables.{Entry, Table, entry_of, items_of, refers_to, with_entry, without_name}
-use Rattle.asa_objects.specs.Defining.{Defines, begun, changed_by}
-use Rattle.asa_objects.proofs.LabelLaws.{same-self}
-use Rattle.asa_objects.proofs.PutLaws.{entry-put, name-gone}
-use Rattle.asa_objects.proofs.OpenLaws.{unused-begun}
+use Rattle.asa_values.specs.Tables.{Entry, Table, entry_of, items_of, refers_to, with_entry, without_name}
+use Rattle.asa_values.specs.Defining.{Defines, begun, changed_by}
+use Rattle.asa_values.proofs.LabelLaws.{same-self}
+use Rattle.asa_ranks.proofs.PutLaws.{entry-put, name-gone}
+use Rattle.asa_ranks.proofs.OpenLaws.{unused-begun}
 use Rattle.asa_objects.proofs.DefineLaws.{made_of, refused-of, refused-same}
 use Rattle.asa_objects.proofs.defining.define_new.Goals as goal
 

@@ -1,8 +1,8 @@
 use Rattle.std.proofs.Common.{◌≡◌, ◌<◌, ◌≤◌, true, false, length, Result, Err, sym, subst, ap, ◌∙◌, rules, arith}
-use Rattle.asa_objects.specs.declared.drafting.Change.{Change}
-use Rattle.asa_objects.specs.declared.faults.ObjectFault.{ObjectFault}
-use Rattle.asa_objects.specs.declared.faults.ObjectFault.TheVariants as fault
-use Rattle.asa_objects.specs.Defining.{lacks_value}
+use Rattle.asa_values.specs.declared.drafting.Change.{Change}
+use Rattle.asa_values.specs.declared.faults.ObjectFault.{ObjectFault}
+use Rattle.asa_values.specs.declared.faults.ObjectFault.TheVariants as fault
+use Rattle.asa_values.specs.Defining.{lacks_value}
 use Rattle.asa_objects.specs.Drafting.{Reads, after_change}
 use Rattle.asa_objects.proofs.DefineLaws.{define-lacks, define-many, define-refused}
 use Rattle.asa_objects.proofs.defining.read_change.Goals as goal

@@ -1,5 +1,5 @@
 use Rattle.std.proofs.Common.{◌≡◌, ◌+◌, ◌++◌, sym, ap, ◌∙◌, arith}
-use Rattle.asa_objects.specs.Tables.{members_of, own_members}
+use Rattle.asa_values.specs.Tables.{members_of, own_members}
 use Rattle.asa_objects.specs.Stacks.{unwound_members, cost, cost_of}
 use Rattle.asa_objects.proofs.StackLaws.{unwound-push, cost-push}
 use Rattle.asa_objects.proofs.expanding.list_members.Goals as goal

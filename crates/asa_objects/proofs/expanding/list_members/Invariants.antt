@@ -1,5 +1,5 @@
 use Rattle.std.proofs.Common.{◌≡◌, ◌++◌}
-use Rattle.asa_objects.specs.Tables.{members_of}
+use Rattle.asa_values.specs.Tables.{members_of}
 use Rattle.asa_objects.specs.Stacks.{unwound_members, cost}
 use Rattle.asa_objects.proofs.expanding.list_members.Given as goal
 

@@ -1,6 +1,6 @@
 use Rattle.asa_members.specs.Items.{item_services}
 use Rattle.std.proofs.Common.{◌≡◌, ◌+◌, ◌++◌, sym, ap, ◌∙◌, arith}
-use Rattle.asa_objects.specs.Tables.{services_of_name}
+use Rattle.asa_values.specs.Tables.{services_of_name}
 use Rattle.asa_objects.specs.Stacks.{unwound_services, cost, cost_of}
 use Rattle.asa_objects.proofs.StackLaws.{unwound-push, cost-push}
 use Rattle.asa_objects.proofs.expanding.list_services.Goals as goal

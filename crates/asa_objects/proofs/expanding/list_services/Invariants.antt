@@ -1,5 +1,5 @@
 use Rattle.std.proofs.Common.{◌≡◌, ◌++◌}
-use Rattle.asa_objects.specs.Tables.{services_of_name}
+use Rattle.asa_values.specs.Tables.{services_of_name}
 use Rattle.asa_objects.specs.Stacks.{unwound_services, cost}
 use Rattle.asa_objects.proofs.expanding.list_services.Given as goal
 

@@ -1,5 +1,5 @@
 use Rattle.std.proofs.Common.{◌≡◌, ◌+◌, ◌∷◌, ◌++◌, Some, None, sym, ap, ◌∙◌, rules}
-use Rattle.asa_objects.specs.Tables.{named, members_of, own_members}
+use Rattle.asa_values.specs.Tables.{named, members_of, own_members}
 use Rattle.asa_objects.specs.Stacks.{given_by, unwound_members, cost, cost_of}
 use Rattle.asa_objects.proofs.StackLaws.{unwound-push, cost-push, own-ref, step-named, step-own, cost-named, cost-own, on-ok}
 use Rattle.asa_objects.proofs.expanding.step_members.Goals as goal

@@ -1,6 +1,6 @@
 use Rattle.asa_members.specs.Items.{item_services}
 use Rattle.std.proofs.Common.{◌≡◌, ◌+◌, ◌∷◌, ◌++◌, Some, None, sym, ap, ◌∙◌, rules}
-use Rattle.asa_objects.specs.Tables.{named, services_of_name}
+use Rattle.asa_values.specs.Tables.{named, services_of_name}
 use Rattle.asa_objects.specs.Stacks.{given_by, unwound_services, cost, cost_of}
 use Rattle.asa_objects.proofs.StackLaws.{unwound-push, cost-push, services-ref, step-named, step-own, cost-named, cost-own, on-ok}
 use Rattle.asa_objects.proofs.expanding.step_services.Goals as goal

@@ -1,8 +1,8 @@
 use Rattle.std.proofs.Common.{◌≡◌, ◌++◌, sym, ap, ◌∙◌}
-use Rattle.asa_objects.specs.Tables.{members_of, own_members}
-use Rattle.asa_objects.specs.Ranks.{members, amount, amount_of, rank_of}
+use Rattle.asa_values.specs.Tables.{members_of, own_members}
+use Rattle.asa_ranks.specs.Ranks.{members, amount, amount_of, rank_of}
 use Rattle.asa_objects.specs.Stacks.{unwound_members}
-use Rattle.asa_objects.proofs.TotalLaws.{amount-rank}
+use Rattle.asa_ranks.proofs.TotalLaws.{amount-rank}
 use Rattle.asa_objects.proofs.StackLaws.{members-given, no-members, wait-listed, wait-cost, on-ok}
 use Rattle.asa_objects.proofs.expanding.wait_for_members.Goals as goal
 

@@ -1,9 +1,9 @@
 use Rattle.asa_members.specs.Items.{item_services}
 use Rattle.std.proofs.Common.{◌≡◌, ◌++◌, sym, ap, ◌∙◌}
-use Rattle.asa_objects.specs.Tables.{services_of_name}
-use Rattle.asa_objects.specs.Ranks.{services, amount, amount_of, rank_of}
+use Rattle.asa_values.specs.Tables.{services_of_name}
+use Rattle.asa_ranks.specs.Ranks.{services, amount, amount_of, rank_of}
 use Rattle.asa_objects.specs.Stacks.{unwound_services}
-use Rattle.asa_objects.proofs.TotalLaws.{amount-rank}
+use Rattle.asa_ranks.proofs.TotalLaws.{amount-rank}
 use Rattle.asa_objects.proofs.StackLaws.{services-given, no-services, wait-listed, wait-cost, on-ok}
 use Rattle.asa_objects.proofs.expanding.wait_for_services.Goals as goal
 

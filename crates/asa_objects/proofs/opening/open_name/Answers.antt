@@ -3,18 +3,18 @@ use Rattle.std.specs.Map.{remove_entry}
 use Rattle.std.specs.BTreeMap.{is_at, insert_entry}
 use Rattle.std.specs.Ordering.{nat_cmp}
 use Rattle.std.specs.Cmp.Lexicographic.{slice_cmp}
-use Rattle.asa_objects.specs.Tables.{Entry, Table, entry_of, same_name}
-use Rattle.asa_objects.specs.Graphs.{IsGraphKept}
-use Rattle.asa_objects.specs.Reaching.{IsReachKept}
-use Rattle.asa_objects.specs.Ranks.{IsSound, Ranks, rank_of}
-use Rattle.asa_objects.proofs.LabelLaws.{changed-at}
-use Rattle.asa_objects.proofs.PutLaws.{name-gone}
-use Rattle.asa_objects.proofs.LoneLaws.{none-of}
-use Rattle.asa_objects.proofs.OpenLaws.{open-sound}
-use Rattle.asa_objects.proofs.PlaceLaws.{keys-added}
-use Rattle.asa_objects.proofs.CloseLaws.{keys-long}
-use Rattle.asa_objects.proofs.GraphLaws.{opened}
-use Rattle.asa_objects.proofs.StayLaws.{kept-opened}
+use Rattle.asa_values.specs.Tables.{Entry, Table, entry_of, same_name}
+use Rattle.asa_ranks.specs.Graphs.{IsGraphKept}
+use Rattle.asa_ranks.specs.Reaching.{IsReachKept}
+use Rattle.asa_ranks.specs.Ranks.{IsSound, Ranks, rank_of}
+use Rattle.asa_values.proofs.LabelLaws.{changed-at}
+use Rattle.asa_ranks.proofs.PutLaws.{name-gone}
+use Rattle.asa_ranks.proofs.LoneLaws.{none-of}
+use Rattle.asa_ranks.proofs.OpenLaws.{open-sound}
+use Rattle.asa_ranks.proofs.PlaceLaws.{keys-added}
+use Rattle.asa_ranks.proofs.CloseLaws.{keys-long}
+use Rattle.asa_ranks.proofs.GraphLaws.{opened}
+use Rattle.asa_ranks.proofs.StayLaws.{kept-opened}
 use Rattle.asa_objects.proofs.opening.open_name.Goals as goal
 
 pub returns-in-Ok-clause-sound : goal.returns-in-Ok-clause-sound
@@ -81,5 +81,5 @@ returns-in-Err-clause-graph c =
     c.remove.ensures.entries
     ∙ ap (λ es. remove_entry (is_at (slice_cmp nat_cmp c.args.name.now)) es) (c.in_ok-insert.ensures.entries ∙ ap (λ k. insert_entry (slice_cmp nat_cmp) c.args.values.now.entries k c.in_ok-empty.empty) c.copy.ensures)
     ∙ name-gone c.args.name.now c.in_ok-empty.empty c.args.values.now.entries c.requires.absent in
-    subst (λ (t : Table). IsGraphKept t c.insert-2.new.self.entries c.args.kept.now.graph.items) (sym back)
-    (subst (λ (r : Ranks). IsGraphKept c.args.values.now.entries r c.args.kept.now.graph.items) (sym c.in-Err.ensures.err) c.requires.graph)
+    subst (λ (t : Table). IsGraphKept t c.insert-2.new.self.entries c.args.kept.now.graph) (sym back)
+    (subst (λ (r : Ranks). IsGraphKept c.args.values.now.entries r c.args.kept.now.graph) (sym c.in-Err.ensures.err) c.requires.graph)

@@ -1,15 +1,15 @@
 use Rattle.std.proofs.Common.{◌≡◌, Bool, cond, Result, Ok, Err, rules, sym, subst, ap, ◌∙◌}
-use Rattle.asa_objects.specs.declared.faults.ObjectFault.{ObjectFault}
-use Rattle.asa_objects.specs.Changing.{Replaces, changed_at}
-use Rattle.asa_objects.specs.Ranks.{IsSound, rank_of}
-use Rattle.asa_objects.specs.Tables.{Table}
+use Rattle.asa_values.specs.declared.faults.ObjectFault.{ObjectFault}
+use Rattle.asa_ranks.specs.Changing.{Replaces, changed_at}
+use Rattle.asa_ranks.specs.Ranks.{IsSound, rank_of}
+use Rattle.asa_values.specs.Tables.{Table}
 use Rattle.asa_objects.specs.Summing.{Renews}
-use Rattle.asa_objects.specs.Totalling.{newer}
-use Rattle.asa_objects.specs.Using.{AreUsed, AreUnused, unused_in}
-use Rattle.asa_objects.proofs.MoveLaws.{move-told, move-refused, move-sound}
-use Rattle.asa_objects.proofs.PutLaws.{set-newer}
-use Rattle.asa_objects.proofs.ReplaceLaws.{sound-users}
-use Rattle.asa_objects.proofs.WayLaws.{above-reaching}
+use Rattle.asa_ranks.specs.Totalling.{newer}
+use Rattle.asa_ranks.specs.Using.{AreUsed, AreUnused, unused_in}
+use Rattle.asa_ranks.proofs.MoveLaws.{move-told, move-refused, move-sound}
+use Rattle.asa_ranks.proofs.PutLaws.{set-newer}
+use Rattle.asa_ranks.proofs.ReplaceLaws.{sound-users}
+use Rattle.asa_ranks.proofs.WayLaws.{above-reaching}
 use Rattle.asa_objects.proofs.resumming.change_summed.Goals as goal
 
 pub returns-in_err-renewed-clause-answer : goal.returns-in_err-renewed-clause-answer

@@ -1,5 +1,5 @@
 use Rattle.std.proofs.Common.{◌∙◌, arith, rules}
-use Rattle.asa_objects.proofs.PutLaws.{set-more-ranks}
+use Rattle.asa_ranks.proofs.PutLaws.{set-more-ranks}
 use Rattle.asa_objects.proofs.resumming.set_ranks.Goals as goal
 
 pub loop-name-preserved : goal.loop-name-preserved

@@ -1,7 +1,7 @@
 use Rattle.std.proofs.Common.{◌≡◌, ℕ, List, cond, take}
 use Rattle.std.specs.Map.{keys_of}
-use Rattle.asa_objects.specs.Ranks.{has_name, rank_of}
-use Rattle.asa_objects.specs.Totalling.{newer}
+use Rattle.asa_ranks.specs.Ranks.{has_name, rank_of}
+use Rattle.asa_ranks.specs.Totalling.{newer}
 use Rattle.asa_objects.proofs.resumming.set_ranks.Given as goal
 
 abbrev pub invariant-loop-name : goal.invariant-loop-name

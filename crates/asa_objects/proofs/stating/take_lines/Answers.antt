@@ -1,7 +1,7 @@
 use Rattle.std.proofs.Common.{◌≡◌, Result, Err, arith, rules, sym, subst}
-use Rattle.asa_objects.specs.declared.faults.ObjectFault.{ObjectFault}
-use Rattle.asa_objects.specs.Defining.{Takes, after_lines}
-use Rattle.asa_objects.specs.Marks.{marked}
+use Rattle.asa_values.specs.declared.faults.ObjectFault.{ObjectFault}
+use Rattle.asa_values.specs.Defining.{Takes, after_lines}
+use Rattle.asa_values.specs.Marks.{marked}
 use Rattle.asa_objects.proofs.LineLaws.{refused-at}
 use Rattle.asa_objects.proofs.stating.take_lines.Goals as goal
 

@@ -1,6 +1,6 @@
 use Rattle.std.proofs.Common.{◌≡◌, ◌+◌, drop}
-use Rattle.asa_objects.specs.Defining.{after_lines}
-use Rattle.asa_objects.specs.Marks.{marked}
+use Rattle.asa_values.specs.Defining.{after_lines}
+use Rattle.asa_values.specs.Marks.{marked}
 use Rattle.asa_objects.proofs.stating.take_lines.Given as goal
 
 abbrev pub invariant-loop-i : goal.invariant-loop-i

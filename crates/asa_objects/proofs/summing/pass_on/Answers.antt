@@ -1,5 +1,5 @@
 use Rattle.std.proofs.Common.{sym, ap}
-use Rattle.asa_objects.specs.Ranks.{users_in}
+use Rattle.asa_ranks.specs.Ranks.{users_in}
 use Rattle.asa_objects.proofs.SumLaws.{users-told, none-told}
 use Rattle.asa_objects.proofs.summing.pass_on.Goals as goal
 

@@ -1,7 +1,7 @@
 use Rattle.std.proofs.Common.{◌≡◌, ℕ, ◌+◌, ◌*◌, List}
-use Rattle.asa_objects.specs.Ranks.{Part, amount}
+use Rattle.asa_ranks.specs.Ranks.{Part, amount}
 use Rattle.asa_objects.specs.Summing.{sum_now}
-use Rattle.asa_objects.specs.Totalling.{times_among}
+use Rattle.asa_ranks.specs.Totalling.{times_among}
 use Rattle.asa_objects.proofs.summing.pass_to_all.Given as goal
 
 abbrev pub invariant-loop-user : goal.invariant-loop-user

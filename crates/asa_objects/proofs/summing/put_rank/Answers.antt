@@ -1,5 +1,5 @@
 use Rattle.std.proofs.Common.{Some}
-use Rattle.asa_objects.proofs.LabelLaws.{changed-at}
+use Rattle.asa_values.proofs.LabelLaws.{changed-at}
 use Rattle.asa_objects.proofs.summing.put_rank.Goals as goal
 
 pub returns-in-Ok-clause-ok : goal.returns-in-Ok-clause-ok

@@ -1,10 +1,10 @@
 use Rattle.std.proofs.Common.{◌≡◌, List, ℕ, Result, Ok, Err, arith, rules, sym, subst}
 use Rattle.std.proofs.lemmas.List.{take_all}
 use Rattle.asa_objects.specs.declared.summing.Renewed.{Renewed}
-use Rattle.asa_objects.specs.declared.faults.ObjectFault.{ObjectFault}
+use Rattle.asa_values.specs.declared.faults.ObjectFault.{ObjectFault}
 use Rattle.asa_objects.specs.Summing.{Renews}
-use Rattle.asa_objects.specs.Totalling.{IsRenewed}
-use Rattle.asa_objects.proofs.RenewLaws.{renew-at, renew-start, small-start, overfull-at, not-before}
+use Rattle.asa_ranks.specs.Totalling.{IsRenewed}
+use Rattle.asa_ranks.proofs.RenewLaws.{renew-at, renew-start, small-start, overfull-at, not-before}
 use Rattle.asa_objects.proofs.SumLaws.{run-start, run-step, sums-at}
 use Rattle.asa_objects.proofs.summing.renew.Goals as goal
 

@@ -1,7 +1,7 @@
 use Rattle.std.proofs.Common.{take}
-use Rattle.asa_objects.specs.Tables.{Table}
+use Rattle.asa_values.specs.Tables.{Table}
 use Rattle.asa_objects.specs.Summing.{AreRunning}
-use Rattle.asa_objects.specs.Totalling.{IsRenewed, AreSmall, IsTold}
+use Rattle.asa_ranks.specs.Totalling.{IsRenewed, AreSmall, IsTold}
 use Rattle.asa_objects.proofs.summing.renew.Given as goal
 
 abbrev pub invariant-loop-name : goal.invariant-loop-name

@@ -1,7 +1,7 @@
 use Rattle.std.proofs.Common.{◌≡◌, IfOk, subst}
 use Rattle.std.specs.List.{sum_by}
 use Rattle.asa_boxes.specs.Pairs.{box_pairs, list_pairs}
-use Rattle.asa_config.specs.Knowing.{meanings_in}
+use Rattle.asa_lists.specs.Knowing.{meanings_in}
 use Rattle.asa_config.proofs.configuring.Config.boxes.Goals as goal
 
 pub returns-clause-pairs : goal.returns-clause-pairs

@@ -1,8 +1,9 @@
 use Rattle.std.proofs.Common.{◌≡◌, IfOk, subst, ap, ◌∙◌}
-use Rattle.asa_config.specs.Counted.{lists_in}
-use Rattle.asa_config.specs.Knowing.{meanings_in, pairs_of_lists, pair_count}
+use Rattle.asa_lists.specs.Counted.{lists_in}
+use Rattle.asa_lists.specs.Knowing.{meanings_in, pairs_of_lists}
+use Rattle.asa_lists.proofs.AnswerLaws.{if_ok}
+use Rattle.asa_config.specs.Knowing.{pair_count}
 use Rattle.asa_config.specs.Net.{with_net}
-use Rattle.asa_config.proofs.KeptLaws.{if_ok}
 use Rattle.asa_config.proofs.configuring.Config.count_under.Goals as goal
 
 pub returns-clause-total : goal.returns-clause-total

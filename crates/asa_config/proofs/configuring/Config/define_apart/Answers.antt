@@ -1,13 +1,13 @@
 use Rattle.std.proofs.Common.{◌≡◌, ◌≤◌, false, Ok, Err, refl, subst, sym, rules}
-use Rattle.asa_objects.specs.Defining.{defined}
+use Rattle.asa_values.specs.Defining.{defined}
 use Rattle.asa_objects.specs.Keeping.{KeepsOthers}
+use Rattle.asa_classes.specs.Judging.{Gives}
 use Rattle.asa_config.specs.contracts.configuring.Config.{the_view}
-use Rattle.asa_config.specs.Judging.{Gives}
 use Rattle.asa_config.specs.Knowing.{pair_count}
 use Rattle.asa_config.specs.Objects.{IsApart, object_step, with_objects}
 use Rattle.asa_config.specs.Settings.{Settings}
 use Rattle.asa_config.proofs.ObjectLaws.{kept_apart, made_apart, refused_object, when_taken}
-use Rattle.asa_config.proofs.SameLaws.{apart_from}
+use Rattle.asa_config.proofs.ApartLaws.{apart_from}
 use Rattle.asa_config.proofs.configuring.Config.define_apart.Goals as goal
 
 pub returns-in_err-told : goal.returns-in_err-told

@@ -1,18 +1,20 @@
 use Rattle.std.proofs.Common.{◌≡◌, ℕ, List, map, Ok, Err, subst, sym, ap, ◌∙◌, rules}
-use Rattle.asa_objects.specs.Defining.{defined}
+use Rattle.asa_values.specs.Defining.{defined}
 use Rattle.asa_objects.specs.Keeping.{ForName, KeepsOthers}
-use Rattle.asa_objects.specs.Ranks.{has_name}
-use Rattle.asa_objects.specs.Tables.{reaches}
+use Rattle.asa_ranks.specs.Ranks.{has_name}
+use Rattle.asa_values.specs.Tables.{reaches}
+use Rattle.asa_lists.specs.Indexing.{AreTold, told_of}
+use Rattle.asa_classes.specs.Judging.{Gives}
+use Rattle.asa_lists.specs.Counted.{lists_in}
+use Rattle.asa_lists.specs.Knowing.{meanings_in, pairs_of_lists}
+use Rattle.asa_lists.specs.Using.{rest_pairs, KeepsBut}
+use Rattle.asa_lists.proofs.UsingLaws.{rests_same}
 use Rattle.asa_config.specs.contracts.configuring.Config.{the_view}
-use Rattle.asa_config.specs.Counted.{lists_in}
-use Rattle.asa_config.specs.Judging.{Gives}
-use Rattle.asa_config.specs.Knowing.{meanings_in, meanings_of, pairs_of_lists}
+use Rattle.asa_config.specs.Knowing.{meanings_of}
 use Rattle.asa_config.specs.Objects.{object_step, with_objects}
 use Rattle.asa_config.specs.Settings.{Settings}
 use Rattle.asa_config.specs.Lists.{with_lists}
-use Rattle.asa_config.specs.Using.{rest_pairs, KeepsBut}
 use Rattle.asa_config.proofs.ObjectLaws.{few_used, made_used, others_keep, refused_object, refused_used, when_taken}
-use Rattle.asa_config.proofs.UsingLaws.{rests_same}
 use Rattle.asa_config.proofs.configuring.Config.define_used.Goals as goal
 
 pub returns-in_err-told : goal.returns-in_err-told
@@ -29,9 +31,11 @@ recounted-requires c =
     let keeps : KeepsBut c.args.names.now c.self.inside.objects c.define.new.self =
     others_keep c.self.inside.objects c.args.block.now c.define.new.self c.args.names.now
     (subst (λ (s : Settings). ForName c.args.block.now (λ name. (q : List ℕ) → has_name c.args.names.now q ≡ reaches s.objects q name)) (sym c.self.view_is) c.requires) taken.0 taken.1 in
+    let told : AreTold c.in_ok-listed.listed.entries (lists_in c.self.inside.table) c.args.names.now =
+    subst (λ (s : Settings). AreTold c.in_ok-listed.listed.entries s.lists c.args.names.now) (sym c.self.view_is) c.in_ok-listed.ensures in
     c.as_slice.ensures.value ∙ c.in_ok-rests.ensures
-    ∙ ap (λ (s : Settings). map (λ l. rest_pairs (meanings_of s) c.args.names.now l.lines) s.lists) (sym c.self.view_is)
-    ∙ rests_same c.self.inside.objects c.define.new.self c.self.inside.net.ifaces c.args.names.now keeps (lists_in c.self.inside.table)
+    ∙ ap (λ (s : Settings). map (λ l. rest_pairs (meanings_of s) (told_of c.in_ok-listed.listed.entries l.name) l.lines) s.lists) (sym c.self.view_is)
+    ∙ rests_same c.self.inside.objects c.define.new.self c.self.inside.net.ifaces c.args.names.now c.in_ok-listed.listed.entries keeps (lists_in c.self.inside.table) told
 
 pub returns-in_err-table : goal.returns-in_err-table
 returns-in_err-table c =

@@ -1,7 +1,7 @@
 use Rattle.std.proofs.Common.{◌≡◌, true, false, is_some, subst, sym, ap, ◌∙◌}
+use Rattle.asa_lists.specs.Counted.{lists_in}
 use Rattle.asa_config.specs.contracts.configuring.Config.{the_view}
 use Rattle.asa_config.specs.Settings.{list_named}
-use Rattle.asa_config.specs.Counted.{lists_in}
 use Rattle.asa_config.specs.Lists as spec
 use Rattle.asa_config.specs.Groups as groups
 use Rattle.asa_config.proofs.TakenLaws.{there_counted, kept_dropped, lists_without_counted}

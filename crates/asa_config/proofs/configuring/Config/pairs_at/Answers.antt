@@ -1,7 +1,7 @@
 use Rattle.std.proofs.Common.{get_or, ap, ◌∙◌}
 use Rattle.asa_boxes.specs.Pairs.{line_pairs}
+use Rattle.asa_lists.proofs.AnswerLaws.{if_ok}
 use Rattle.asa_config.specs.Knowing.{meanings_of}
-use Rattle.asa_config.proofs.KeptLaws.{if_ok}
 use Rattle.asa_config.proofs.TakenLaws.{pairs_taken}
 use Rattle.asa_config.proofs.configuring.Config.pairs_at.Goals as goal
 

@@ -1,10 +1,12 @@
 use Rattle.std.proofs.Common.{◌≡◌, ◌+◌, ◌≤◌, true, OnOk, subst, sym, ap, ◌∙◌}
+use Rattle.asa_lists.specs.Counted.{lists_in}
+use Rattle.asa_lists.specs.Knowing.{meanings_in}
+use Rattle.asa_lists.proofs.AnswerLaws.{on_ok, on_err}
 use Rattle.asa_config.specs.contracts.configuring.Config.{the_view}
 use Rattle.asa_config.specs.Settings.{list_among}
-use Rattle.asa_config.specs.Counted.{lists_in}
-use Rattle.asa_config.specs.Knowing.{meanings_in, meanings_of, pair_count}
+use Rattle.asa_config.specs.Knowing.{meanings_of, pair_count}
 use Rattle.asa_config.specs.Lists as spec
-use Rattle.asa_config.proofs.KeptLaws.{kept_answer, lists_answer, on_ok, on_err}
+use Rattle.asa_config.proofs.KeptLaws.{kept_answer, lists_answer}
 use Rattle.asa_boxes.specs.Pairs.{line_pairs}
 use Rattle.asa_config.proofs.ConfigLaws.{pairs_counted}
 use Rattle.asa_config.proofs.LineLaws.{room_same}

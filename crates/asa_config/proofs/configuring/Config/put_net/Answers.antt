@@ -1,12 +1,12 @@
 use Rattle.std.proofs.Common.{◌≡◌, ◌≤◌, length, subst, sym, ap, ◌∙◌}
+use Rattle.asa_lists.specs.Counted.{lists_in, recounted}
+use Rattle.asa_lists.specs.Knowing.{meanings_in}
+use Rattle.asa_lists.specs.Soundness.{AreCounts, AreCounted}
+use Rattle.asa_lists.proofs.RecountLaws.{lists_recounted, counted_recounted}
 use Rattle.asa_config.specs.contracts.configuring.Config.{the_view}
-use Rattle.asa_config.specs.Counted.{lists_in, recounted}
-use Rattle.asa_config.specs.Knowing.{meanings_in}
 use Rattle.asa_config.specs.Net.{with_net}
-use Rattle.asa_config.specs.Soundness.{AreCounts, AreCounted}
 use Rattle.asa_config.specs.Lists.{with_lists}
 use Rattle.asa_config.proofs.NetLaws.{kept_more}
-use Rattle.asa_config.proofs.RecountLaws.{lists_recounted, counted_recounted}
 use Rattle.asa_config.proofs.configuring.Config.put_net.Goals as goal
 
 pub invariant_of-self : goal.invariant_of-self

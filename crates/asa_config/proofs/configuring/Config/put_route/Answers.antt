@@ -1,6 +1,6 @@
 use Rattle.std.proofs.Common.{subst, sym}
+use Rattle.asa_classes.specs.Judging.{Makes}
 use Rattle.asa_config.specs.contracts.configuring.Config.{the_view}
-use Rattle.asa_config.specs.Judging.{Makes}
 use Rattle.asa_config.specs.Net.{route_put, with_net}
 use Rattle.asa_ifaces.specs.Routes.{route_added}
 use Rattle.asa_config.proofs.NetLaws.{kept_net, route_keeps, net_told}

@@ -1,10 +1,10 @@
 use Rattle.std.proofs.Common.{◌≡◌, ◌≤◌, None, Ok, refl, subst, sym, ap, ◌∙◌}
-use Rattle.asa_objects.specs.Tables.{without_name}
+use Rattle.asa_values.specs.Tables.{without_name}
 use Rattle.asa_config.specs.contracts.configuring.Config.{the_view}
 use Rattle.asa_config.specs.Knowing.{pair_count}
 use Rattle.asa_config.specs.Objects.{list_using, with_objects, changed}
 use Rattle.asa_config.proofs.ObjectLaws.{kept_objects}
-use Rattle.asa_config.proofs.SameLaws.{counted_same, fits_same, rest_keeps}
+use Rattle.asa_config.proofs.ApartLaws.{counted_same, fits_same, rest_keeps}
 use Rattle.asa_config.proofs.configuring.Config.remove_object.Goals as goal
 
 pub invariant_of-self : goal.invariant_of-self

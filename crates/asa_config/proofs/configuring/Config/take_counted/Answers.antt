@@ -1,11 +1,12 @@
 use Rattle.std.proofs.Common.{◌≡◌, OnOk, Some, subst, sym, ap, ◌∙◌}
+use Rattle.asa_lists.specs.Counted.{lists_in}
+use Rattle.asa_lists.specs.Knowing.{meanings_in}
+use Rattle.asa_lists.proofs.AnswerLaws.{on_ok, on_err}
 use Rattle.asa_config.specs.contracts.configuring.Config.{the_view}
 use Rattle.asa_config.specs.Settings.{list_among}
-use Rattle.asa_config.specs.Counted.{lists_in}
-use Rattle.asa_config.specs.Knowing.{meanings_in, meanings_of}
+use Rattle.asa_config.specs.Knowing.{meanings_of}
 use Rattle.asa_config.specs.Lists as spec
 use Rattle.asa_config.specs.Soundness.{TakesPairs}
-use Rattle.asa_config.proofs.KeptLaws.{on_ok, on_err}
 use Rattle.asa_config.proofs.TakenLaws.{takes_within, takes_at_most, kept_taken_answer, lists_taken}
 use Rattle.asa_config.proofs.configuring.Config.take_counted.Goals as goal
 

@@ -1,5 +1,5 @@
 use Rattle.std.proofs.Common.{OnOk, sym, subst}
-use Rattle.asa_objects.specs.Tables.{Table}
+use Rattle.asa_values.specs.Tables.{Table}
 use Rattle.asa_objects.specs.Keeping.{KeepsOthers}
 use Rattle.asa_objects.proofs.KeptLaws.{define-keeps}
 use Rattle.asa_objects.proofs.tabling.Objects.define.Goals as goal

@@ -1,5 +1,5 @@
 use Rattle.std.proofs.Common.{ap, ◌∙◌}
-use Rattle.asa_objects.specs.Tables.{Table, user_of}
+use Rattle.asa_values.specs.Tables.{Table, user_of}
 use Rattle.asa_objects.proofs.UserLaws.{user-is}
 use Rattle.asa_objects.proofs.tabling.Objects.group_using.Goals as goal
 

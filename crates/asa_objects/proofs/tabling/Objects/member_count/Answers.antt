@@ -1,8 +1,8 @@
 use Rattle.std.proofs.Common.{length, sym, ap, ◌∙◌, arith}
-use Rattle.asa_objects.specs.Tables.{Table, members_of}
-use Rattle.asa_objects.specs.Ranks.{members, amount, rank_of}
-use Rattle.asa_objects.proofs.RankLaws.{kept-members}
-use Rattle.asa_objects.proofs.TotalLaws.{amount-rank}
+use Rattle.asa_values.specs.Tables.{Table, members_of}
+use Rattle.asa_ranks.specs.Ranks.{members, amount, rank_of}
+use Rattle.asa_ranks.proofs.RankLaws.{kept-members}
+use Rattle.asa_ranks.proofs.TotalLaws.{amount-rank}
 use Rattle.asa_objects.proofs.tabling.Objects.member_count.Goals as goal
 
 pub returns-clause-value : goal.returns-clause-value

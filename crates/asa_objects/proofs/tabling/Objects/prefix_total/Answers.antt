@@ -1,10 +1,10 @@
 use Rattle.asa_base.specs.Prefixes.{member_prefix_count}
 use Rattle.std.proofs.Common.{sum_by, sym, ap, ◌∙◌, arith}
-use Rattle.asa_objects.specs.Tables.{Table, members_of}
-use Rattle.asa_objects.specs.Ranks.{members, prefixes, amount, rank_of}
-use Rattle.asa_objects.proofs.RankLaws.{kept-prefixes}
-use Rattle.asa_objects.proofs.SpreadLaws.{total-sum}
-use Rattle.asa_objects.proofs.TotalLaws.{amount-rank}
+use Rattle.asa_values.specs.Tables.{Table, members_of}
+use Rattle.asa_ranks.specs.Ranks.{members, prefixes, amount, rank_of}
+use Rattle.asa_ranks.proofs.RankLaws.{kept-prefixes}
+use Rattle.asa_values.proofs.SpreadLaws.{total-sum}
+use Rattle.asa_ranks.proofs.TotalLaws.{amount-rank}
 use Rattle.asa_objects.proofs.tabling.Objects.prefix_total.Goals as goal
 
 pub returns-clause-value : goal.returns-clause-value

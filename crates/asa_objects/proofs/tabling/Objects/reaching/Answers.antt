@@ -1,5 +1,6 @@
 use Rattle.std.proofs.Common.{◌≡◌, false, is_some, sym, rules}
-use Rattle.asa_objects.specs.Ranks.{rank_of}
+use Rattle.asa_ranks.specs.Ranks.{rank_of}
+use Rattle.asa_ranks.proofs.WayLaws.{listed-stays}
 use Rattle.asa_objects.proofs.FrameLaws.{kept-stays, only-reaches, sound-stays}
 use Rattle.asa_objects.proofs.tabling.Objects.reaching.Goals as goal
 
@@ -28,6 +29,6 @@ invariant_of-self-2 c = (
   sound-stays c.self.inside.values.entries _ _ _ _ _ _ c.self.invariant.0 c.or_climbed.ensures.ranks c.or_climbed.ensures.uses c.or_climbed.ensures.stamp,
   c.hold_reach.ensures c.self.inside.values.entries c.or_climbed.new.kept.ranks.entries
       (kept-stays c.self.inside.values.entries _ _ _ _ (c.take_reach-known.ensures.rest c.self.inside.values.entries c.self.inside.kept.ranks.entries c.self.invariant.1) c.or_climbed.ensures.ranks c.or_climbed.ensures.reach)
-      c.in-Some.ensures.right,
+      (listed-stays c.self.inside.values.entries c.or_climbed.new.kept.ranks.entries c.in-Some.reach c.listed_names.new.reach c.in-Some.ensures.right c.listed_names.ensures.name c.listed_names.ensures.ways c.listed_names.ensures.counts c.listed_names.ensures.listed),
   c.or_climbed.ensures.graph,
 )

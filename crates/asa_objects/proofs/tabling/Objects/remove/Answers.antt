@@ -1,7 +1,7 @@
 use Rattle.std.proofs.Common.{subst, ap, ◌∙◌}
-use Rattle.asa_objects.specs.Tables.{Table, user_of}
+use Rattle.asa_values.specs.Tables.{Table, user_of}
 use Rattle.asa_objects.specs.Keeping.{KeepsRest}
-use Rattle.asa_objects.proofs.OpenLaws.{unused-by}
+use Rattle.asa_ranks.proofs.OpenLaws.{unused-by}
 use Rattle.asa_objects.proofs.KeptLaws.{remove-keeps}
 use Rattle.asa_objects.proofs.tabling.Objects.remove.Goals as goal
 

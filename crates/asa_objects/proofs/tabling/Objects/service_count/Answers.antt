@@ -1,8 +1,8 @@
 use Rattle.std.proofs.Common.{length, sym, ap, ◌∙◌, arith}
-use Rattle.asa_objects.specs.Tables.{Table, services_of_name}
-use Rattle.asa_objects.specs.Ranks.{services, amount, rank_of}
-use Rattle.asa_objects.proofs.RankLaws.{kept-services}
-use Rattle.asa_objects.proofs.TotalLaws.{amount-rank}
+use Rattle.asa_values.specs.Tables.{Table, services_of_name}
+use Rattle.asa_ranks.specs.Ranks.{services, amount, rank_of}
+use Rattle.asa_ranks.proofs.RankLaws.{kept-services}
+use Rattle.asa_ranks.proofs.TotalLaws.{amount-rank}
 use Rattle.asa_objects.proofs.tabling.Objects.service_count.Goals as goal
 
 pub returns-clause-value : goal.returns-clause-value

@@ -1,7 +1,0 @@
-use Rattle.std.proofs.Common.{arith, rules}
-use Rattle.asa_objects.proofs.GraphLaws.{sets-step}
-use Rattle.asa_objects.proofs.graphing.set_all.Goals as goal
-
-pub loop-name-preserved : goal.loop-name-preserved
-loop-name-preserved c = sets-step c.args.values.now.entries c.args.ranks.now.entries c.args.changed.now c.args.names.now c.loop-name.name-index c.name-item.result
-    c.args.graph.now.items c.loop-name.graph.items c.set_from.new.graph.items (omega arith) (search rules) c.loop-name.invariant c.in_ok-set_from.ensures

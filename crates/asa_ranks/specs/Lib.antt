@@ -1,0 +1,10 @@
+pub mod Amounts
+pub mod Ranks
+pub mod Climbing
+pub mod Totalling
+pub mod Using
+pub mod Changing
+pub mod Weighing
+pub mod Reaching
+pub mod Graphs
+pub mod Seats

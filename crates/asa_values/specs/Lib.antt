@@ -1,0 +1,5 @@
+pub mod Spreads
+pub mod Tables
+pub mod Defining
+pub mod Marks
+pub mod Ordering
