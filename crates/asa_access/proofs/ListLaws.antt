@@ -3,8 +3,8 @@ use Rattle.std.proofs.Common.{◌≡◌, ℕ, zero, suc, ◌+◌, ◌<◌, Bool,
 use Rattle.std.specs.List.{position}
 use Rattle.std.specs.Option.{option_map}
 use Rattle.std.proofs.lemmas.Option.{slice_get-map}
-use Rattle.asa_base.specs.declared.flowing.Packet.{Packet}
-use Rattle.asa_access.specs.declared.listing.AccessList.{AccessList}
+use Rattle.asa_base.specs.declared.flow.Packet.{Packet}
+use Rattle.asa_access.specs.declared.list.AccessList.{AccessList}
 use Rattle.asa_access.specs.Rules.{inbound_by, outbound_by}
 use Rattle.asa_access.specs.Lists.{has_side, match_of, covering_in, rises, inbound, outbound, inbound_covering, outbound_covering}
 use Rattle.asa_access.specs.Compiled.{CompiledLists, IsTable, place_in, match_in, covering_among, inbound_in, outbound_in, covering_inbound, covering_outbound}

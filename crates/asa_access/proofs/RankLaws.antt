@@ -3,11 +3,11 @@ use Rattle.std.proofs.Common.{◌≡◌, ℕ, suc, ◌+◌, ◌≤◌, min, Bool
 use Rattle.std.specs.List.{find}
 use Rattle.std.specs.List.Sorted.{IsPermutation}
 use Rattle.std.specs.Option.{option_map}
-use Rattle.asa_base.specs.declared.flowing.Packet.{Packet}
+use Rattle.asa_base.specs.declared.flow.Packet.{Packet}
 use Rattle.asa_pair_trie.specs.declared.entries.Entry.{Entry}
 use Rattle.asa_pair_trie.specs.Pairs.{holds, lesser, least_rank, first_of, covers_both}
 use Rattle.asa_pair_trie.proofs.RankLaws.{first_permutation, covering_permutation}
-use Rattle.asa_entries.specs.Matching.{Placed, first_match, IsRanked}
+use Rattle.asa_access_entries.specs.Matches.{Placed, first_match, IsRanked}
 
 abbrev bare : Placed → Entry
 bare e = e.0

@@ -2,11 +2,11 @@
 use Rattle.std.specs.Prelude.{◌≡◌, ℕ, ◌+◌, ◌<◌, Bool, List, length, filter, slice_get, Option, Some, option_and_then, unwrap_or}
 use Rattle.std.specs.List.{position}
 use Rattle.std.specs.Option.{option_map}
-use Rattle.asa_base.specs.declared.flowing.Packet.{Packet}
+use Rattle.asa_base.specs.declared.flow.Packet.{Packet}
 use Rattle.asa_pair_trie.specs.declared.entries.Entry.{Entry}
 use Rattle.asa_pair_trie.specs.Pairs.{covers_both, first_of}
-use Rattle.asa_access.specs.declared.listing.AccessList.{AccessList}
-use Rattle.asa_access.specs.declared.verdicts.AccessVerdict.{AccessVerdict}
+use Rattle.asa_access.specs.declared.list.AccessList.{AccessList}
+use Rattle.asa_access.specs.declared.verdict.AccessVerdict.{AccessVerdict}
 use Rattle.asa_access.specs.Rules.{Match, inbound_by, outbound_by}
 use Rattle.asa_access.specs.Lists.{has_side, rises}
 

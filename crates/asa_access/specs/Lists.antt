@@ -2,10 +2,10 @@
 use Rattle.std.specs.Prelude.{ℕ, ◌+◌, Bool, true, false, not, ◌&&◌, ◌==◌, nat_lt, List, slice_get, slice_index, Option, option_and_then, unwrap_or}
 use Rattle.std.specs.List.{list_any, position}
 use Rattle.std.specs.Option.{option_map}
-use Rattle.asa_base.specs.declared.flowing.Packet.{Packet}
-use Rattle.asa_entries.specs.Matching.{entries_covering, first_match}
-use Rattle.asa_access.specs.declared.listing.AccessList.{AccessList}
-use Rattle.asa_access.specs.declared.verdicts.AccessVerdict.{AccessVerdict}
+use Rattle.asa_base.specs.declared.flow.Packet.{Packet}
+use Rattle.asa_access_entries.specs.Matches.{entries_covering, first_match}
+use Rattle.asa_access.specs.declared.list.AccessList.{AccessList}
+use Rattle.asa_access.specs.declared.verdict.AccessVerdict.{AccessVerdict}
 use Rattle.asa_access.specs.Rules.{Match, inbound_by, outbound_by}
 
 -- both are inbound sides, or both outbound ones

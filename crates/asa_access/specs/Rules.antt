@@ -1,9 +1,9 @@
 -- What the lists that are bound at an interface, and the levels, say of a packet.
 use Rattle.std.specs.Prelude.{ℕ, Bool, true, false, List, Option, Some, None, if◌then◌else◌}
-use Rattle.asa_base.specs.declared.flowing.AccessBy.{AccessBy}
-use Rattle.asa_base.specs.declared.flowing.AccessBy.TheVariants as by
-use Rattle.asa_access.specs.declared.verdicts.AccessVerdict.{AccessVerdict}
-use Rattle.asa_access.specs.declared.verdicts.AccessVerdict.TheVariants.{Permit, Deny}
+use Rattle.asa_base.specs.declared.flow.AccessBy.{AccessBy}
+use Rattle.asa_base.specs.declared.flow.AccessBy.TheVariants as by
+use Rattle.asa_access.specs.declared.verdict.AccessVerdict.{AccessVerdict}
+use Rattle.asa_access.specs.declared.verdict.AccessVerdict.TheVariants.{Permit, Deny}
 
 -- a list that is bound: its name, and the first line of it that holds the packet, with whether that line permits
 pub record Match : Type 0 where

@@ -1,12 +1,12 @@
 //! What lies outside the contracts: verdicts from the rules.
 ghost use Rattle.std.specs.Prelude.{◌≤◌, IsTrue};
-ghost use Rattle.asa_entries.specs.Matching.{box_pairs};
+ghost use Rattle.asa_access_entries.specs.Matches.{box_pairs};
 
 use crate::{Access, AccessList, AccessVerdict};
+use asa_access_entries::entries_of;
 use asa_base::{
     AccessBy, Addr, Counter, LineBox, Name, Packet, PortRange, Range, Service, prefix_count,
 };
-use asa_entries::entries_of;
 use asa_text::Items;
 use std::alloc::Global;
 use std::test::Fail;

@@ -1,4 +1,1 @@
-mod CountLaws
-mod KeepLaws
 mod LineLaws
-pub mod UseLaws

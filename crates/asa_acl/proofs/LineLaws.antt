@@ -1,10 +1,10 @@
 -- Lines with different fingerprints differ.
 use Rattle.std.proofs.Common.{◌≡◌, ℕ, Bool, true, false, ◌==◌, refl, sym, ap, ◌∙◌}
 use Rattle.std.proofs.lemmas.Bool.Decides.{Decides-eqb}
-use Rattle.asa_ace.specs.declared.stating.AclLine.{AclLine}
-use Rattle.asa_ace.specs.Lines.{line_eq}
-use Rattle.asa_ace.proofs.LineLaws.{line_tells}
-use Rattle.asa_acl.specs.Marks.{mark_of}
+use Rattle.asa_acl_line.specs.declared.ace.AclLine.{AclLine}
+use Rattle.asa_acl_line.specs.Lines.{line_eq}
+use Rattle.asa_acl_line.proofs.LineLaws.{line_tells}
+use Rattle.asa_acl.specs.Fingerprints.{mark_of}
 
 -- different fingerprints answer as the test of equality does
 pub marks_differ : (item held : AclLine) (own mark : ℕ) → own ≡ mark_of held → mark ≡ mark_of item → (own ≡ mark → ⊥) → (own == mark) ≡ line_eq item held

@@ -1,4 +1,2 @@
-pub mod Marks
-pub mod Keys
-pub mod Uses
-pub mod Lists
+pub mod Fingerprints
+pub mod Acls

@@ -76,20 +76,6 @@ fn assert_number(rt: &impl Abort, list: &Acl, item: &AclLine, number: u32) {
     assert_eq!(rt; place + 1, number);
 }
 
-/// How many lines use the object or group, where equal ones count each.
-fn users(list: &Acl, name: &Name) -> u32 {
-    let mut users: u32 = 0;
-    for (_, count) in list.lines_using(name).iter() {
-        users = users.saturating_add(*count);
-    }
-    users
-}
-
-/// Asserts how many lines use the object or group.
-fn assert_users(rt: &impl Abort, list: &Acl, text: &[u8], count: u32) {
-    assert_eq!(rt; users(list, &name(rt, text)), count);
-}
-
 fn is_remark(line: Option<&AclLine>) -> bool {
     line.is_some_and(|l| matches!(l, AclLine::Remark(_)))
 }
@@ -135,14 +121,14 @@ fn the_line_at_a_place_is_removed(rt: HostRuntime) {
     put_last(&rt, &mut list, b"LAN", b"WEB");
     put_last(&rt, &mut list, b"WAN", b"WEB");
     put_last(&rt, &mut list, b"DMZ", b"WEB");
-    assert_users(&rt, &list, b"WAN", 1);
+    assert!(rt; list.uses(&name(&rt, b"WAN")));
     assert!(rt; list.len() == 3);
     list.remove_at(1);
     assert_eq!(rt; list.len(), 2);
     assert_number(&rt, &list, &between(&rt, b"LAN", b"WEB"), 1);
     assert_number(&rt, &list, &between(&rt, b"DMZ", b"WEB"), 2);
-    assert_users(&rt, &list, b"WAN", 0);
-    assert_users(&rt, &list, b"WEB", 2);
+    assert!(rt; !list.uses(&name(&rt, b"WAN")));
+    assert!(rt; list.uses(&name(&rt, b"WEB")));
 }
 
 #[test]
@@ -157,66 +143,6 @@ fn a_name_is_used_while_a_line_has_it(rt: HostRuntime) {
     assert!(rt; list.uses(&group));
     take(&rt, &mut list, &from(&rt, b"LAN"));
     assert!(rt; !list.uses(&group));
-}
-
-/// A list with two equal lines, and between them one that shares a name with them.
-fn mixed(rt: &(impl Abort + AllocGlobal)) -> Acl {
-    let mut list = empty(rt, b"OUT");
-    put_last(rt, &mut list, b"LAN", b"DMZ");
-    put_last(rt, &mut list, b"LAN", b"DMZ");
-    put(rt, &mut list, Some(2), between(rt, b"WAN", b"LAN"));
-    list
-}
-
-#[test]
-fn a_line_that_names_an_object_twice_is_given_once(rt: HostRuntime) {
-    let mut list = empty(&rt, b"OUT");
-    put_last(&rt, &mut list, b"LAN", b"LAN");
-    assert_users(&rt, &list, b"LAN", 1);
-    take(&rt, &mut list, &between(&rt, b"LAN", b"LAN"));
-    assert_users(&rt, &list, b"LAN", 0);
-}
-
-#[test]
-fn lines_are_given_by_the_names_that_they_use(rt: HostRuntime) {
-    let mut list = mixed(&rt);
-    assert_users(&rt, &list, b"LAN", 3);
-    take(&rt, &mut list, &between(&rt, b"LAN", b"DMZ"));
-    assert_users(&rt, &list, b"LAN", 2);
-    assert_users(&rt, &list, b"DMZ", 1);
-}
-
-#[test]
-fn a_copy_keeps_the_lines_of_its_names(rt: HostRuntime) {
-    let mut list = mixed(&rt);
-    let copy = copy_of(&rt, &list);
-    take(&rt, &mut list, &between(&rt, b"WAN", b"LAN"));
-    assert_users(&rt, &list, b"WAN", 0);
-    assert_users(&rt, &copy, b"WAN", 1);
-}
-
-#[test]
-fn equal_lines_are_given_once_with_their_number(rt: HostRuntime) {
-    let list = mixed(&rt);
-    let dmz = list.lines_using(&name(&rt, b"DMZ"));
-    assert_eq!(rt; dmz.len(), 1);
-    let (line, count) = dmz.get_index(0).expect(&rt, "a line that uses it");
-    assert!(rt; line.line().is_same(&between(&rt, b"LAN", b"DMZ")));
-    assert_eq!(rt; *count, 2);
-}
-
-#[test]
-fn a_name_of_two_equal_lines_is_used_until_both_are_removed(rt: HostRuntime) {
-    let mut list = empty(&rt, b"OUT");
-    put_last(&rt, &mut list, b"LAN", b"WEB");
-    put_last(&rt, &mut list, b"LAN", b"WEB");
-    assert_users(&rt, &list, b"WEB", 2);
-    take(&rt, &mut list, &between(&rt, b"LAN", b"WEB"));
-    assert_users(&rt, &list, b"WEB", 1);
-    assert!(rt; list.uses(&name(&rt, b"WEB")));
-    take(&rt, &mut list, &between(&rt, b"LAN", b"WEB"));
-    assert_users(&rt, &list, b"WEB", 0);
-    assert!(rt; !list.uses(&name(&rt, b"WEB")));
 }
 
 /// A list of so many hosts in rising order.

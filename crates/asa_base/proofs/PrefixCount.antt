@@ -1,10 +1,10 @@
 -- A range has at most 62 networks.
-use Rattle.std.proofs.Common.{◌≡◌, ◌==◌, ℕ, zero, suc, ◌+◌, ◌-◌, ◌*◌, ◌/◌, ◌%◌, ◌^◌, ◌<◌, ◌≤◌, true, false, List, [], ◌∷◌, ◌++◌, length, append_assoc, append-nil, length-append, refl, ap, sym, ◌∙◌, arith, ⊎_elim, ◌⊎◌}
+use Rattle.std.proofs.Common.{◌≡◌, ℕ, zero, suc, ◌+◌, ◌-◌, ◌*◌, ◌/◌, ◌%◌, ◌^◌, ◌<◌, ◌≤◌, List, [], ◌∷◌, ◌++◌, length, append_assoc, append-nil, length-append, refl, ap, sym, ◌∙◌, arith, ⊎_elim}
 use Rattle.std.proofs.lemmas.Bool.{cases_lt, cases_eq}
-use Rattle.std.proofs.lemmas.Nat.{pow_pos, pow-add, shr_split, mod-pow-add, mod_below}
+use Rattle.std.proofs.lemmas.Nat.{pow_pos, shr_split, mod-pow-add, mod_below}
 use Rattle.std.proofs.Math.Nat.{mul-mod_left, mod-eq_of_lt}
 use Rattle.asa_base.specs.Networks.{Network}
-use Rattle.asa_base.specs.Prefixes.{block_fits, level_at, block, blocks, prefixes_between, prefixes_of_span}
+use Rattle.asa_base.specs.Prefixes.{level_at, block, blocks, prefixes_between, prefixes_of_span}
 use Rattle.asa_base.specs.Ranges.{AddressSpan}
 use Rattle.asa_base.proofs.PrefixLaws.{doubled, fits_from, too_long, not_aligned, aligned_down, greatest_is, blocks_none, blocks_more, blocks_zero, between_none, between_more}
 

@@ -1,13 +1,13 @@
 -- The networks of a range cover its addresses, and no other.
-use Rattle.std.proofs.Common.{◌≡◌, ◌==◌, ◌&&◌, ◌||◌, ℕ, zero, suc, ◌+◌, ◌-◌, ◌*◌, ◌/◌, ◌%◌, ◌^◌, ◌<◌, ◌≤◌, Bool, true, false, nat_lt, nat_le, List, [], ◌∷◌, ◌++◌, length, append_assoc, append-nil, length-append, refl, ap, sym, ◌∙◌, arith, ⊎_elim, ◌⊎◌}
+use Rattle.std.proofs.Common.{◌≡◌, ◌==◌, ◌&&◌, ◌||◌, ℕ, zero, suc, ◌+◌, ◌-◌, ◌*◌, ◌/◌, ◌%◌, ◌^◌, ◌<◌, ◌≤◌, false, nat_lt, nat_le, ap, ◌∙◌, arith, ⊎_elim}
 use Rattle.std.proofs.lemmas.Bool.{cases_lt}
 use Rattle.std.proofs.lemmas.Bool.Decides.{nat_tests}
 use Rattle.std.proofs.lemmas.Nat.{pow_pos, shr_split, div_below, le-div}
 use Rattle.std.proofs.Math.Nat.{div-eq_of_lt-le}
 use Rattle.std.specs.List.{list_any}
-use Rattle.asa_text.specs.declared.numbering.Addr.{Addr}
-use Rattle.asa_base.specs.Networks.{Network, covers, block_size}
-use Rattle.asa_base.specs.Prefixes.{block_fits, level_at, block, blocks, prefixes_between, prefixes_of_span}
+use Rattle.asa_text.specs.declared.numbers.Addr.{Addr}
+use Rattle.asa_base.specs.Networks.{covers}
+use Rattle.asa_base.specs.Prefixes.{level_at, block, blocks, prefixes_between, prefixes_of_span}
 use Rattle.asa_base.specs.Ranges.{AddressSpan, span_holds}
 use Rattle.asa_base.proofs.PrefixLaws.{fits_parts, greatest_fits, greatest_le, blocks_none, blocks_more, blocks_zero}
 

@@ -1,9 +1,9 @@
 -- Which packets a service and a box hold.
 use Rattle.std.specs.Prelude.{ℕ, Bool, true, ◌&&◌, ◌==◌, Option, Some, None}
 use Rattle.asa_base.specs.Ranges.{span_holds, port_span_holds, all_ports}
-use Rattle.asa_base.specs.declared.flowing.Packet.{Packet}
-use Rattle.asa_base.specs.declared.boxing.Service.{Service}
-use Rattle.asa_base.specs.declared.boxing.LineBox.{LineBox}
+use Rattle.asa_base.specs.declared.flow.Packet.{Packet}
+use Rattle.asa_base.specs.declared.boxes.Service.{Service}
+use Rattle.asa_base.specs.declared.boxes.LineBox.{LineBox}
 
 -- nothing is stated, or this number
 abbrev pub unstated_or : Option ℕ → ℕ → Bool

@@ -1,10 +1,11 @@
 pub mod Boxes
-pub mod Counting
-pub mod Knowing
+pub mod Counters
+pub mod Kinds
+pub mod Meanings
 pub mod Members
-pub mod Naming
+pub mod Names
 pub mod Networks
 pub mod Prefixes
 pub mod Ranges
-pub mod Reading
-pub mod Wanting
+pub mod Readers
+pub mod Memory

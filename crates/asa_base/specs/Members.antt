@@ -1,8 +1,7 @@
 -- What a network object or group names: an address, a range of addresses or a network.
-use Rattle.asa_text.specs.declared.numbering.Addr.{Addr}
 use Rattle.asa_base.specs.Ranges.{AddressSpan, only_address, network_span}
-use Rattle.asa_base.specs.declared.ranging.Member.{Member}
-use Rattle.asa_base.specs.declared.ranging.Member.TheVariants.{Host, Span, Subnet}
+use Rattle.asa_base.specs.declared.range.Member.{Member}
+use Rattle.asa_base.specs.declared.range.Member.TheVariants.{Host, Span, Subnet}
 
 -- the addresses of a member
 abbrev pub member_range : Member → AddressSpan

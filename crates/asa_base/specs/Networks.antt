@@ -1,9 +1,9 @@
 -- Networks: an address whose host bits are zero, and the number of its leading bits that a covered address shares.
-use Rattle.std.specs.Prelude.{ℕ, ◌-◌, ◌*◌, ◌/◌, ◌%◌, ◌^◌, Bool, ◌&&◌, ◌==◌, nat_le, List, [], ◌∷◌, codes, Ok, Err, if◌then◌else◌}
-use Rattle.asa_text.specs.declared.numbering.Addr.{Addr}
-use Rattle.asa_text.specs.declared.reading.LineFault.TheVariants.{Bad}
-use Rattle.asa_text.specs.Words.{Spelled, Left}
-use Rattle.asa_text.specs.Readers.{Read, ◌>>=◌, after_one, next_is, address_at, mask_at}
+use Rattle.std.specs.Prelude.{ℕ, ◌-◌, ◌*◌, ◌/◌, ◌%◌, ◌^◌, Bool, ◌&&◌, ◌==◌, nat_le, codes, Ok, Err, if◌then◌else◌}
+use Rattle.asa_text.specs.declared.numbers.Addr.{Addr}
+use Rattle.asa_text.specs.declared.readers.LineFault.TheVariants.{Bad}
+use Rattle.asa_text.specs.Words.{Left}
+use Rattle.asa_text.specs.Readers.{Read, ◌>>=◌, after_one, column_at, next_is, address_at, mask_at}
 
 pub record Network : Type 0 where
   pub addr : Addr
@@ -37,22 +37,14 @@ zero_or_address_at left = if next_is (codes "0") left then Ok (record { 0 = 0 },
 unfoldable pub zero_or_mask_at : Left → Read ℕ
 zero_or_mask_at left = if next_is (codes "0") left then Ok (0, after_one left) else mask_at left
 
--- the column of the next word, or that of a missing one
-abbrev pub next_column : Left → ℕ
-next_column left = of_words left.words
-  where
-    of_words : List Spelled → ℕ
-    of_words [] = left.end
-    of_words (w ∷ _) = w.column
-
 -- the network of an address and a mask that stands at a column; host bits that aren't zero are Bad at the mask
 abbrev pub network_or_bad : ℕ → Addr → ℕ → Left → Read Network
 network_or_bad column a len rest = if is_prefix a.0 len then Ok (record { addr = a; len = len }, rest) else Err (Bad column)
 
 -- `A M` of a list line or an object
 unfoldable pub network_at : Left → Read Network
-network_at left = address_at left >>= λ (a, l). mask_at l >>= λ (len, l2). network_or_bad (next_column l) a len l2
+network_at left = address_at left >>= λ (a, l). mask_at l >>= λ (len, l2). network_or_bad (column_at l) a len l2
 
 -- `A M` of a route line, where `0` stands for 0.0.0.0 at each place
 unfoldable pub route_network_at : Left → Read Network
-route_network_at left = zero_or_address_at left >>= λ (a, l). zero_or_mask_at l >>= λ (len, l2). network_or_bad (next_column l) a len l2
+route_network_at left = zero_or_address_at left >>= λ (a, l). zero_or_mask_at l >>= λ (len, l2). network_or_bad (column_at l) a len l2

@@ -4,7 +4,7 @@ use Rattle.std.specs.Prelude.{ℕ, zero, suc, ◌+◌, ◌-◌, ◌%◌, ◌^◌
 use Rattle.asa_base.specs.Networks.{Network}
 use Rattle.asa_base.specs.Members.{member_range}
 use Rattle.asa_base.specs.Ranges.{AddressSpan}
-use Rattle.asa_base.specs.declared.ranging.Member.{Member}
+use Rattle.asa_base.specs.declared.range.Member.{Member}
 
 -- 2 ^ level addresses begin at a multiple of their number, and end before the end
 abbrev pub block_fits : ℕ → ℕ → ℕ → Bool

@@ -1,6 +1,6 @@
 -- Ranges of addresses and of ports, from a first to a last that both count, and what an object or a group names with them.
-use Rattle.std.specs.Prelude.{ℕ, ◌+◌, ◌-◌, ◌*◌, ◌^◌, Bool, ◌&&◌, nat_le, List, [], ◌∷◌, Option, Some, None}
-use Rattle.asa_text.specs.declared.numbering.Addr.{Addr}
+use Rattle.std.specs.Prelude.{ℕ, ◌+◌, ◌-◌, ◌^◌, Bool, ◌&&◌, nat_le, List, [], ◌∷◌, Option, Some, None}
+use Rattle.asa_text.specs.declared.numbers.Addr.{Addr}
 use Rattle.asa_base.specs.Networks.{Network, block_size}
 
 -- a range of addresses

@@ -1,8 +1,8 @@
 //! What lies outside the contracts: that the clauses mean what they should, at values from the rules.
 ghost use Rattle.std.specs.Prelude.{◌==◌, ◌<◌, length, codes, Some, None, if◌then◌else◌};
 ghost use Rattle.std.specs.Str.{bytes_eq};
-ghost use Rattle.asa_base.specs.declared.knowing.Kind.TheVariants.{PortGroup};
-ghost use Rattle.asa_base.specs.declared.knowing.PortProto.TheVariants.{Udp};
+ghost use Rattle.asa_base.specs.declared.kinds.Kind.TheVariants.{PortGroup};
+ghost use Rattle.asa_base.specs.declared.kinds.PortProto.TheVariants.{Udp};
 
 use crate::{
     Counter, Kind, LineBox, Member, Name, Names, Packet, PortProto, PortRange, Ports, Prefix,

@@ -1,56 +1,52 @@
 -- Lists keep their pairs after a change of names that they don't use.
 use Rattle.std.proofs.Common.{◌≡◌, ℕ, ◌+◌, ◌≤◌, Bool, true, false, cond, not, nat_le, ◌||◌, if◌then◌else◌, List, [], ◌∷◌, Option, Some, None, is_some, Result, Ok, Err, refl, sym, ap, ◌∙◌}
-use Rattle.std.specs.List.{list_any, find}
+use Rattle.std.specs.List.{list_any}
 use Rattle.std.specs.Option.{option_map}
 use Rattle.std.proofs.lemmas.Bool.{le-leb}
 use Rattle.std.proofs.lemmas.List.Sums.{sum_by-cons}
-use Rattle.asa_text.specs.declared.grouping.Block.{Block}
+use Rattle.asa_text.specs.declared.blocks.Block.{Block}
 use Rattle.asa_text.specs.Words.{line_left}
-use Rattle.asa_ifaces.specs.declared.holding.Iface.{Iface}
-use Rattle.asa_acl.specs.Lists.{AccessLines, list_uses}
-use Rattle.asa_members.specs.declared.topping.Top.{Top}
-use Rattle.asa_members.specs.Tops.{top_at}
-use Rattle.asa_values.specs.declared.faults.ObjectFault.{ObjectFault}
-use Rattle.asa_values.specs.Defining.{and_then, read_at, top_text, defined_by, defined}
-use Rattle.asa_objects.specs.Keeping.{ForName, KeepsOthers, KeepsRest}
-use Rattle.asa_objects.specs.Keeping as keeping
-use Rattle.asa_ranks.specs.Ranks.{has_name}
-use Rattle.asa_values.specs.Tables.{Table, reaches, same_name}
-use Rattle.asa_values.proofs.LabelLaws.{same-is}
-use Rattle.asa_boxes.specs.Pairs.{list_pairs}
-use Rattle.asa_classes.specs.declared.refusing.EditFault.TheVariants.{TooLarge}
-use Rattle.asa_classes.specs.Judging.{refused}
-use Rattle.asa_lists.specs.Counted.{Counted, lists_in}
-use Rattle.asa_lists.specs.Knowing.{meanings_in, pairs_of_lists}
-use Rattle.asa_lists.specs.Soundness.{AreCounted}
-use Rattle.asa_lists.specs.Fitting.{capped}
-use Rattle.asa_lists.proofs.SameLaws.{list_same}
+use Rattle.asa_ifaces.specs.declared.iface.Iface.{Iface}
+use Rattle.asa_acl.specs.Acls.{AccessLines, list_uses}
+use Rattle.asa_objects_lines.specs.declared.top.Top.{Top}
+use Rattle.asa_objects_lines.specs.Tops.{top_at}
+use Rattle.asa_objects_values.specs.declared.faults.ObjectFault.{ObjectFault}
+use Rattle.asa_objects_values.specs.Definition.{and_then, read_at, top_text, defined_by, defined}
+use Rattle.asa_objects.specs.Frames.{ForName, KeepsOthers, KeepsRest}
+use Rattle.asa_objects.specs.Frames as keeping
+use Rattle.asa_objects_table.specs.Ranks.{has_name}
+use Rattle.asa_objects_values.specs.Tables.{Table, reaches, same_name}
+use Rattle.asa_objects_values.proofs.LabelLaws.{same-is}
+use Rattle.asa_acl_boxes.specs.Pairs.{list_pairs}
+use Rattle.asa_config_edit.specs.declared.fault.EditFault.TheVariants.{TooLarge}
+use Rattle.asa_config_edit.specs.Refusals.{refused}
+use Rattle.asa_acl_table.specs.Lists.{first_using}
+use Rattle.asa_acl_table.specs.Names.{meanings_in, pairs_of_lists}
+use Rattle.asa_acl_table.specs.Limits.{capped}
+use Rattle.asa_acl_table.proofs.SameLaws.{list_same}
 use Rattle.asa_config.specs.Settings.{Settings}
-use Rattle.asa_config.specs.Knowing.{pair_count}
-use Rattle.asa_config.specs.Fitting.{fitting}
+use Rattle.asa_config.specs.Names.{pair_count}
+use Rattle.asa_config.specs.Limits.{fitting}
 use Rattle.asa_config.specs.Objects.{IsApart, list_using, with_objects, changed}
 
 -- a name that a list uses is among those that lists use
 using_first : (l : AccessLines) (ls : List AccessLines) (q : List ℕ) → list_uses q l ≡ true → is_some (list_using (l ∷ ls) q) ≡ true
-using_first l ls q uses = ap (λ b. is_some (option_map (λ x. x.name) (cond b (Some l) (find (list_uses q) ls)))) uses
+using_first l ls q uses = ap (λ b. is_some (option_map (λ x. x.name) (cond b (Some l) (first_using ls q)))) uses
 
 using_rest : (l : AccessLines) (ls : List AccessLines) (q : List ℕ) → is_some (list_using ls q) ≡ true → is_some (list_using (l ∷ ls) q) ≡ true
 using_rest l ls q used = by (list_uses q l)
   where
-    by : (b : Bool) → is_some (option_map (λ x. x.name) (cond b (Some l) (find (list_uses q) ls))) ≡ true
+    by : (b : Bool) → is_some (option_map (λ x. x.name) (cond b (Some l) (first_using ls q))) ≡ true
     by true = refl
     by false = used
 
--- what is counted stays counted
-pub counted_same : (old new : Table) (is : List Iface) (ts : List Counted) → ((q : List ℕ) → is_some (list_using (lists_in ts) q) ≡ true → keeping.IsKept old new q)
-    → AreCounted (meanings_in old is) ts → AreCounted (meanings_in new is) ts
-counted_same old new is [] same counted = tt
-counted_same old new is (t ∷ ts) same counted = (
-  counted.0 ∙ sym (list_same old new is t.list (λ q h. same q (using_first t.list (lists_in ts) q h))),
-  counted_same old new is ts (λ q h. same q (using_rest t.list (lists_in ts) q h)) counted.1,
-)
+-- a list that is found has a name
+pub listed_same : (o : Option AccessLines) → is_some o ≡ is_some (option_map (λ l. l.name) o)
+listed_same None = refl
+listed_same (Some l) = refl
 
-pairs_same : (old new : Table) (is : List Iface) (ls : List AccessLines) → ((q : List ℕ) → is_some (list_using ls q) ≡ true → keeping.IsKept old new q)
+-- the lists keep their pairs
+pub pairs_same : (old new : Table) (is : List Iface) (ls : List AccessLines) → ((q : List ℕ) → is_some (list_using ls q) ≡ true → keeping.IsKept old new q)
     → pairs_of_lists (meanings_in new is) ls ≡ pairs_of_lists (meanings_in old is) ls
 pairs_same old new is [] same = refl
 pairs_same old new is (l ∷ ls) same =

@@ -1,21 +1,17 @@
--- What holds of the parts of a configuration goes on holding after a change of one of them.
-use Rattle.std.proofs.Common.{◌≡◌, ℕ, Bool, true, false, cond, List, [], ◌∷◌, ◌++◌, Option, Some, None, is_some, Decides, Result, Ok, Err, OnOk, OnErr, refl, sym, ap, subst, ◌∙◌}
+-- What holds of the parts of a configuration goes on holding after a change of its lists.
+use Rattle.std.proofs.Common.{◌≡◌, ℕ, ◌≤◌, Bool, true, false, cond, List, [], ◌∷◌, ◌++◌, Option, Some, None, is_some, Decides, refl, sym, ap, subst, ◌∙◌}
 use Rattle.std.specs.List.{list_all}
 use Rattle.std.specs.Str.{bytes_eq}
 use Rattle.std.proofs.lemmas.Slice.Eq.{bytes_eq-Decides}
 use Rattle.std.proofs.lemmas.Bool.{and_parts, and_from}
-use Rattle.asa_acl.specs.Lists.{AccessLines, with_line}
+use Rattle.asa_acl.specs.Acls.{AccessLines, with_line}
 use Rattle.asa_ifaces.specs.Interfaces.{Interfaces}
-use Rattle.asa_values.specs.Tables.{Table}
-use Rattle.asa_boxes.specs.Pairs.{line_pairs}
-use Rattle.asa_lists.specs.declared.stating.NewLine.{NewLine}
-use Rattle.asa_lists.specs.Counted.{Counted, lists_in, list_of, table_with}
-use Rattle.asa_lists.specs.Knowing.{meanings_in}
-use Rattle.asa_lists.specs.Soundness.{AreCounted}
+use Rattle.asa_objects_values.specs.Tables.{Table}
+use Rattle.asa_acl_table.specs.declared.new_line.NewLine.{NewLine}
+use Rattle.asa_acl_table.specs.Lists.{list_of, with_list, put_in}
+use Rattle.asa_acl_table.specs.Names.{meanings_in, pairs_of_lists}
 use Rattle.asa_config.specs.Settings.{has_name, list_among}
 use Rattle.asa_config.specs.Soundness.{IsKept, is_global_defined}
-use Rattle.asa_config.specs.Lists.{with_list, put_in}
-use Rattle.asa_config.proofs.LineLaws.{lists_put, counted_put}
 
 -- the same names are there after a list has taken the place of another
 pub there_with : (lists : List AccessLines) (new : AccessLines) (name : List ℕ) → is_some (list_among (with_list lists new) name) ≡ is_some (list_among lists name)
@@ -45,7 +41,7 @@ there_more (l ∷ ls) new name there = by (has_name name l) there (λ more. ther
     by true there more = refl
     by false there more = more there
 
-there_put : (lists : List AccessLines) (new : NewLine) (o : Option AccessLines) (name : List ℕ) → is_some (list_among lists name) ≡ true → is_some (list_among (put_in lists new o) name) ≡ true
+pub there_put : (lists : List AccessLines) (new : NewLine) (o : Option AccessLines) (name : List ℕ) → is_some (list_among lists name) ≡ true → is_some (list_among (put_in lists new o) name) ≡ true
 there_put lists new (Some l) name there = there_with lists (with_line l new.place new.item) name ∙ there
 there_put lists new None name there = there_more lists (list_of new.list new.item) name there
 
@@ -59,32 +55,27 @@ list_all-weaker p q weaker (x ∷ xs) h =
 abbrev pub Keeps : List AccessLines → List AccessLines → Type 0
 Keeps old new = (name : List ℕ) → is_some (list_among old name) ≡ true → is_some (list_among new name) ≡ true
 
-pub kept_lists : (objects : Table) (net : Interfaces) (ts us : List Counted) (bound : List ((ℕ × Bool) × List ℕ)) (global : Option (List ℕ)) → IsKept objects net ts bound global
-    → AreCounted (meanings_in objects net.ifaces) us → Keeps (lists_in ts) (lists_in us) → IsKept objects net us bound global
-kept_lists objects net ts us bound global kept counted keeps = record {
+-- what holds goes on holding under other lists, whose pairs are told and few
+pub kept_lists : (objects : Table) (net : Interfaces) (old new : List AccessLines) (pairs total : ℕ) (bound : List ((ℕ × Bool) × List ℕ)) (global : Option (List ℕ)) → IsKept objects net old pairs bound global
+    → total ≡ pairs_of_lists (meanings_in objects net.ifaces) new → total ≤ 262144 → Keeps old new → IsKept objects net new total bound global
+kept_lists objects net old new pairs total bound global kept counted few keeps = record {
   counted = counted;
+  few = few;
   within = kept.within;
-  defined = list_all-weaker (λ b. is_some (list_among (lists_in ts) b.1)) (λ b. is_some (list_among (lists_in us) b.1)) (λ b h. keeps b.1 h) bound kept.defined;
+  defined = list_all-weaker (λ b. is_some (list_among old b.1)) (λ b. is_some (list_among new b.1)) (λ b h. keeps b.1 h) bound kept.defined;
+  rising = kept.rising;
   global_defined = by global kept.global_defined;
 }
   where
-    by : (g : Option (List ℕ)) → is_global_defined (lists_in ts) g ≡ true → is_global_defined (lists_in us) g ≡ true
+    by : (g : Option (List ℕ)) → is_global_defined old g ≡ true → is_global_defined new g ≡ true
     by None h = refl
     by (Some name) h = keeps name h
 
 -- after a line has gone in
-pub kept_put : (objects : Table) (net : Interfaces) (ts us : List Counted) (bound : List ((ℕ × Bool) × List ℕ)) (global : Option (List ℕ)) (new : NewLine) (n : ℕ) → IsKept objects net ts bound global
-    → n ≡ line_pairs (meanings_in objects net.ifaces) new.item → us ≡ table_with ts new n → IsKept objects net us bound global
-kept_put objects net ts us bound global new n kept told made =
-    kept_lists objects net ts us bound global kept (counted_put (meanings_in objects net.ifaces) ts us new n kept.counted told made)
-    (λ name there. ap (λ ls. is_some (list_among ls name)) (lists_put ts us new n made) ∙ there_put (lists_in ts) new (list_among (lists_in ts) new.list) name there)
-
-pub kept_answer : {E : Type 0} (r : Result (Unit {0}) E) (objects : Table) (net : Interfaces) (ts us : List Counted) (bound : List ((ℕ × Bool) × List ℕ)) (global : Option (List ℕ)) (new : NewLine) (n : ℕ)
-    → IsKept objects net ts bound global → n ≡ line_pairs (meanings_in objects net.ifaces) new.item → OnOk r (us ≡ table_with ts new n) → OnErr r (us ≡ ts) → IsKept objects net us bound global
-kept_answer (Ok x) objects net ts us bound global new n kept told ok err = kept_put objects net ts us bound global new n kept told ok
-kept_answer (Err e) objects net ts us bound global new n kept told ok err = subst (λ t. IsKept objects net t bound global) (sym err) kept
-
-pub lists_answer : {E : Type 0} (r : Result (Unit {0}) E) (ts us : List Counted) (new : NewLine) (n : ℕ) → OnOk r (us ≡ table_with ts new n)
-    → OnOk r (lists_in us ≡ put_in (lists_in ts) new (list_among (lists_in ts) new.list))
-lists_answer (Ok x) ts us new n ok = lists_put ts us new n ok
-lists_answer (Err e) ts us new n ok = tt
+pub kept_put : (objects : Table) (net : Interfaces) (old new : List AccessLines) (pairs total : ℕ) (bound : List ((ℕ × Bool) × List ℕ)) (global : Option (List ℕ)) (line : NewLine) → IsKept objects net old pairs bound global
+    → new ≡ put_in old line (list_among old line.list) → total ≡ pairs_of_lists (meanings_in objects net.ifaces) (put_in old line (list_among old line.list)) → total ≤ 262144
+    → IsKept objects net new total bound global
+kept_put objects net old new pairs total bound global line kept made counted few =
+    subst (λ ls. IsKept objects net ls total bound global) (sym made)
+    (kept_lists objects net old (put_in old line (list_among old line.list)) pairs total bound global kept counted few
+    (λ name there. there_put old line (list_among old line.list) name there))

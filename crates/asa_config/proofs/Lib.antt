@@ -1,5 +1,3 @@
-pub mod ConfigLaws
-pub mod LineLaws
 pub mod KeptLaws
 pub mod NetLaws
 pub mod ApartLaws
@@ -7,4 +5,3 @@ pub mod ObjectLaws
 pub mod ReadLaws
 pub mod BindingLaws
 pub mod TakenLaws
-pub mod PutLaws

@@ -1,24 +1,23 @@
 -- What a change of interfaces and routes leaves as it is, and what it answers.
 use Rattle.std.proofs.Common.{◌≡◌, ℕ, ◌≤◌, Bool, true, false, nat_lt, if◌then◌else◌, List, [], ◌∷◌, length, Option, Result, Ok, Err, sym, ap, subst, arith, length-append}
 use Rattle.std.proofs.lemmas.Bool.{lt-ltb, ltb-true}
-use Rattle.asa_text.specs.declared.grouping.Block.{Block}
-use Rattle.asa_ifaces.specs.declared.holding.Iface.{Iface}
+use Rattle.asa_text.specs.declared.blocks.Block.{Block}
+use Rattle.asa_ifaces.specs.declared.iface.Iface.{Iface}
 use Rattle.asa_ifaces.specs.Blocks.{interface_step, interface_added, interface_of_block, with_interface}
-use Rattle.asa_ifaces.specs.declared.holding.IfaceFault.{IfaceFault}
-use Rattle.asa_ifaces.specs.declared.holding.IfaceFault.TheVariants as fault
-use Rattle.asa_ifaces.specs.declared.holding.RouteLine.{RouteLine}
-use Rattle.asa_ifaces.specs.Answering.{Makes, Changes, and_then}
+use Rattle.asa_ifaces.specs.declared.iface.IfaceFault.{IfaceFault}
+use Rattle.asa_ifaces.specs.declared.iface.IfaceFault.TheVariants as fault
+use Rattle.asa_ifaces.specs.declared.iface.RouteLine.{RouteLine}
+use Rattle.asa_ifaces.specs.Answers.{Makes, Changes, and_then}
 use Rattle.asa_ifaces.specs.Interfaces.{Interfaces}
-use Rattle.asa_values.specs.Tables.{Table}
+use Rattle.asa_objects_values.specs.Tables.{Table}
 use Rattle.asa_ifaces.specs.Routes.{route_added, routes_with, route_removed, routes_without, has_route, without_route, with_routes}
-use Rattle.asa_text.specs.declared.reading.LineFault.TheVariants as word
-use Rattle.asa_classes.specs.Judging.{◌>>=◌}
-use Rattle.asa_classes.specs.Judging as judging
-use Rattle.asa_lists.specs.Counted.{Counted, lists_in}
-use Rattle.asa_lists.specs.Knowing.{meanings_in}
-use Rattle.asa_lists.specs.Soundness.{AreCounted}
+use Rattle.asa_text.specs.declared.readers.LineFault.TheVariants as word
+use Rattle.asa_config_edit.specs.Refusals.{◌>>=◌}
+use Rattle.asa_config_edit.specs.Refusals as judging
+use Rattle.asa_acl.specs.Acls.{AccessLines}
+use Rattle.asa_acl_table.specs.Names.{meanings_in, pairs_of_lists}
 use Rattle.asa_config.specs.Settings.{Settings}
-use Rattle.asa_config.specs.Soundness.{IsKept, all_within, all_defined, is_global_defined}
+use Rattle.asa_config.specs.Soundness.{IsKept, all_within}
 use Rattle.asa_config.proofs.KeptLaws.{list_all-weaker}
 use Rattle.asa_config.specs.Net.{of_net, told, with_net}
 
@@ -26,11 +25,14 @@ abbrev Bound : Type 0
 Bound = List ((ℕ × Bool) × List ℕ)
 
 -- the interfaces decide
-pub kept_net : (objects : Table) (old new : Interfaces) (ts : List Counted) (bound : Bound) (global : Option (List ℕ)) → new.ifaces ≡ old.ifaces → IsKept objects old ts bound global → IsKept objects new ts bound global
-kept_net objects old new ts bound global same kept = record {
-  counted = subst (λ is. AreCounted (meanings_in objects is) ts) (sym same) kept.counted;
+pub kept_net : (objects : Table) (old new : Interfaces) (lists : List AccessLines) (pairs : ℕ) (bound : Bound) (global : Option (List ℕ)) → new.ifaces ≡ old.ifaces
+    → IsKept objects old lists pairs bound global → IsKept objects new lists pairs bound global
+kept_net objects old new lists pairs bound global same kept = record {
+  counted = subst (λ is. pairs ≡ pairs_of_lists (meanings_in objects is) lists) (sym same) kept.counted;
+  few = kept.few;
   within = subst (λ is. all_within (length is) bound ≡ true) (sym same) kept.within;
   defined = kept.defined;
+  rising = kept.rising;
   global_defined = kept.global_defined;
 }
 
@@ -86,14 +88,16 @@ grows (Err fault.NoSuchLine) old new b makes = subst (λ k. length old.ifaces �
 grows (Err fault.TooMany) old new b makes = subst (λ k. length old.ifaces ≤ length k.ifaces) (sym makes.1) (omega arith)
 
 -- and more interfaces keep what is bound
-pub kept_more : (objects : Table) (old new : Interfaces) (ts us : List Counted) (bound : Bound) (global : Option (List ℕ)) → IsKept objects old ts bound global → length old.ifaces ≤ length new.ifaces
-    → AreCounted (meanings_in objects new.ifaces) us → lists_in us ≡ lists_in ts → IsKept objects new us bound global
-kept_more objects old new ts us bound global kept more counted same = record {
+pub kept_more : (objects : Table) (old new : Interfaces) (lists : List AccessLines) (pairs more : ℕ) (bound : Bound) (global : Option (List ℕ)) → IsKept objects old lists pairs bound global
+    → length old.ifaces ≤ length new.ifaces → more ≡ pairs_of_lists (meanings_in objects new.ifaces) lists → more ≤ 262144 → IsKept objects new lists more bound global
+kept_more objects old new lists pairs more bound global kept longer counted few = record {
   counted = counted;
+  few = few;
   within = list_all-weaker (λ b. nat_lt b.0.0 (length old.ifaces)) (λ b. nat_lt b.0.0 (length new.ifaces))
-      (λ b h. lt-ltb b.0.0 (length new.ifaces) (omega (arith, more, ltb-true b.0.0 (length old.ifaces) h))) bound kept.within;
-  defined = subst (λ ls. all_defined ls bound ≡ true) (sym same) kept.defined;
-  global_defined = subst (λ ls. is_global_defined ls global ≡ true) (sym same) kept.global_defined;
+      (λ b h. lt-ltb b.0.0 (length new.ifaces) (omega (arith, longer, ltb-true b.0.0 (length old.ifaces) h))) bound kept.within;
+  defined = kept.defined;
+  rising = kept.rising;
+  global_defined = kept.global_defined;
 }
 
 -- a route that is put leaves the interfaces

@@ -1,10 +1,10 @@
 -- A reader that may want memory, and goes on after it.
 use Rattle.std.proofs.Common.{ap}
-use Rattle.asa_text.specs.declared.reading.LineFault.{LineFault}
-use Rattle.asa_text.specs.declared.reading.LineFault.TheVariants.{Bad, Unsupported, Unknown, NoSuchInterface, NoMemory}
+use Rattle.asa_text.specs.declared.readers.LineFault.{LineFault}
+use Rattle.asa_text.specs.declared.readers.LineFault.TheVariants.{Bad, Unsupported, Unknown, NoSuchInterface, NoMemory}
 use Rattle.asa_text.specs.Words.{Left}
 use Rattle.asa_text.specs.Readers.{Read, ◌>>=◌}
-use Rattle.asa_base.specs.Wanting.{MayFault}
+use Rattle.asa_base.specs.Memory.{MayFault}
 
 -- a fault ends the reading
 pub may_after : {X Y : Type 0} (f : LineFault) (s : Read X) (more : X × Left → Read Y) → MayFault f s → MayFault f (s >>= more)

@@ -1,18 +1,18 @@
 -- The lines that are read here: those of access lists, up to the entry, and those of access groups.
 use Rattle.std.specs.Prelude.{ℕ, Bool, true, false, ◌||◌, List, codes, Option, Some, None, is_some, Ok, Err, if◌then◌else◌}
-use Rattle.asa_text.specs.declared.reading.LineFault.TheVariants.{Bad, Unsupported, Unknown}
+use Rattle.asa_text.specs.declared.readers.LineFault.TheVariants.{Bad, Unsupported, Unknown}
 use Rattle.asa_text.specs.Words.{Left}
 use Rattle.asa_text.specs.Readers.{Read, ◌>>=◌, word_at, after_one, column_at, next_is, keyword_at, number_at, end_at}
-use Rattle.asa_base.specs.Naming.{is_name, name_at}
-use Rattle.asa_base.specs.Reading.{interface_at}
-use Rattle.asa_ace.specs.Reading.{acl_line_at}
-use Rattle.asa_lists.specs.declared.stating.NewLine.{NewLine}
-use Rattle.asa_config.specs.declared.stating.OldLine.{OldLine}
-use Rattle.asa_config.specs.declared.stating.Place.{Place}
-use Rattle.asa_config.specs.declared.stating.Place.TheVariants.{Side, Global}
-use Rattle.asa_config.specs.declared.stating.Binding.{Binding}
+use Rattle.asa_base.specs.Names.{is_name, name_at}
+use Rattle.asa_base.specs.Readers.{interface_at}
+use Rattle.asa_acl_line.specs.Grammar.{acl_line_at}
+use Rattle.asa_acl_table.specs.declared.new_line.NewLine.{NewLine}
+use Rattle.asa_config.specs.declared.places.OldLine.{OldLine}
+use Rattle.asa_config.specs.declared.places.Place.{Place}
+use Rattle.asa_config.specs.declared.places.Place.TheVariants.{Side, Global}
+use Rattle.asa_config.specs.declared.places.Binding.{Binding}
 use Rattle.asa_config.specs.Settings.{Settings, list_named}
-use Rattle.asa_config.specs.Knowing.{known_of}
+use Rattle.asa_config.specs.Names.{known_of}
 
 -- `line L`, or nothing
 unfoldable pub place_in_list_at : Left → Read (Option ℕ)

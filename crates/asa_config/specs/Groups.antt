@@ -2,19 +2,22 @@
 use Rattle.std.specs.Prelude.{ℕ, ◌<◌, Bool, ◌||◌, List, [], ◌∷◌, Option, Some, None, Ok, if◌then◌else◌}
 use Rattle.std.specs.List.{list_any}
 use Rattle.std.specs.Str.{bytes_eq}
-use Rattle.asa_text.specs.declared.grouping.Block.{Block}
-use Rattle.asa_classes.specs.declared.refusing.EditFault.TheVariants.{NotBound}
-use Rattle.asa_classes.specs.Judging.{Judged, ◌>>=◌, refused, top_read, alone}
-use Rattle.asa_config.specs.declared.stating.Place.{Place}
-use Rattle.asa_config.specs.declared.stating.Place.TheVariants.{Side, Global}
-use Rattle.asa_config.specs.declared.stating.Binding.{Binding}
-use Rattle.asa_config.specs.Settings.{Settings, same_side, bound_to}
+use Rattle.asa_text.specs.declared.blocks.Block.{Block}
+use Rattle.asa_config_edit.specs.declared.fault.EditFault.TheVariants.{NotBound}
+use Rattle.asa_config_edit.specs.Refusals.{Judged, ◌>>=◌, refused, top_read, alone}
+use Rattle.asa_config.specs.declared.places.Place.{Place}
+use Rattle.asa_config.specs.declared.places.Place.TheVariants.{Side, Global}
+use Rattle.asa_config.specs.declared.places.Binding.{Binding}
+use Rattle.asa_config.specs.Settings.{Settings, same_side, is_side_before, bound_to}
 use Rattle.asa_config.specs.Grammar.{binding_line, old_binding_line}
 
--- a list takes the place of the earlier one of that side, or goes last
+-- a list takes the place of the earlier one of that side, or goes before the later sides
 abbrev pub with_side : List ((ℕ × Bool) × List ℕ) → ℕ × Bool → List ℕ → List ((ℕ × Bool) × List ℕ)
 with_side [] side name = (side, name) ∷ []
-with_side (b ∷ bs) side name = if same_side side b.0 then (side, name) ∷ bs else b ∷ with_side bs side name
+with_side (b ∷ bs) side name =
+    if same_side side b.0 then (side, name) ∷ bs
+    else (if is_side_before side b.0 then (side, name) ∷ b ∷ bs
+    else b ∷ with_side bs side name)
 
 -- nothing is bound to that side any more
 abbrev pub without_side : List ((ℕ × Bool) × List ℕ) → ℕ × Bool → List ((ℕ × Bool) × List ℕ)

@@ -1,7 +1,7 @@
 pub mod Settings
-pub mod Knowing
+pub mod Names
 pub mod Grammar
-pub mod Fitting
+pub mod Limits
 pub mod Net
 pub mod Objects
 pub mod Groups

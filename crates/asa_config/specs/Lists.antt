@@ -1,37 +1,17 @@
 -- Lines of access lists: where a new one goes, and which one is removed.
-use Rattle.std.specs.Prelude.{ℕ, Bool, false, ◌==◌, nat_lt, List, [], ◌∷◌, ◌++◌, length, Option, Some, None, is_some, codes, Ok, if◌then◌else◌}
-use Rattle.asa_text.specs.declared.grouping.Block.{Block}
-use Rattle.asa_ace.specs.declared.stating.AclLine.{AclLine}
-use Rattle.asa_acl.specs.Lists.{AccessLines, with_line, without_equal, place_of_equal}
-use Rattle.asa_classes.specs.declared.refusing.EditFault.TheVariants.{NoSuchLine, InUse, TooMany}
-use Rattle.asa_classes.specs.Judging.{Judged, ◌>>=◌, refused, top_text, top_read, alone}
-use Rattle.asa_lists.specs.declared.stating.NewLine.{NewLine}
-use Rattle.asa_lists.specs.Counted.{list_of}
-use Rattle.asa_config.specs.declared.stating.OldLine.{OldLine}
-use Rattle.asa_config.specs.Settings.{Settings, has_name, list_among}
+use Rattle.std.specs.Prelude.{ℕ, Bool, false, ◌==◌, List, length, Option, Some, None, is_some, codes, Ok, if◌then◌else◌}
+use Rattle.asa_text.specs.declared.blocks.Block.{Block}
+use Rattle.asa_acl_line.specs.declared.ace.AclLine.{AclLine}
+use Rattle.asa_acl.specs.Acls.{AccessLines, without_equal, place_of_equal}
+use Rattle.asa_config_edit.specs.declared.fault.EditFault.TheVariants.{NoSuchLine, InUse, TooMany}
+use Rattle.asa_config_edit.specs.Refusals.{Judged, ◌>>=◌, refused, top_text, top_read, alone}
+use Rattle.asa_acl_table.specs.declared.new_line.NewLine.{NewLine}
+use Rattle.asa_acl_table.specs.Lists.{with_list, without_list, has_room, put_in}
+use Rattle.asa_config.specs.declared.places.OldLine.{OldLine}
+use Rattle.asa_config.specs.Settings.{Settings, list_among}
 use Rattle.asa_config.specs.Groups.{is_bound}
-use Rattle.asa_config.specs.Fitting.{fitting}
+use Rattle.asa_config.specs.Limits.{fitting}
 use Rattle.asa_config.specs.Grammar.{new_line, old_line}
-
--- a list takes the place of the one that has its name
-abbrev pub with_list : List AccessLines → AccessLines → List AccessLines
-with_list [] new = []
-with_list (l ∷ ls) new = if has_name new.name l then new ∷ ls else l ∷ with_list ls new
-
--- the lists without the one that has this name
-abbrev pub without_list : List AccessLines → List ℕ → List AccessLines
-without_list [] name = []
-without_list (l ∷ ls) name = if has_name name l then ls else l ∷ without_list ls name
-
--- a list may get a line, so that it has at most 65,536; or one more list may be begun, so that there are at most 1,024
-abbrev pub has_room : List AccessLines → Option AccessLines → Bool
-has_room lists (Some l) = nat_lt (length l.lines) 65536
-has_room lists None = nat_lt (length lists) 1024
-
--- the lists after a line has gone into the one with its name, or has begun it; a new list goes last
-abbrev pub put_in : List AccessLines → NewLine → Option AccessLines → List AccessLines
-put_in lists new (Some l) = with_list lists (with_line l new.place new.item)
-put_in lists new None = lists ++ list_of new.list new.item ∷ []
 
 -- the configuration with other lists
 abbrev pub with_lists : Settings → List AccessLines → Settings

@@ -1,20 +1,20 @@
 -- Blocks of interfaces, and the lines of routes, times and same security.
 use Rattle.std.specs.Prelude.{Bool, Ok, Err, Result, if◌then◌else◌}
-use Rattle.asa_text.specs.declared.grouping.Block.{Block}
-use Rattle.asa_ifaces.specs.declared.holding.IfaceFault.{IfaceFault}
-use Rattle.asa_ifaces.specs.declared.holding.IfaceFault.TheVariants as net
-use Rattle.asa_ifaces.specs.declared.holding.RouteLine.{RouteLine}
+use Rattle.asa_text.specs.declared.blocks.Block.{Block}
+use Rattle.asa_ifaces.specs.declared.iface.IfaceFault.{IfaceFault}
+use Rattle.asa_ifaces.specs.declared.iface.IfaceFault.TheVariants as net
+use Rattle.asa_ifaces.specs.declared.iface.RouteLine.{RouteLine}
 use Rattle.asa_ifaces.specs.Interfaces.{Interfaces}
 use Rattle.asa_ifaces.specs.Blocks as blocks
 use Rattle.asa_ifaces.specs.Routes.{route_line, no_route_line, route_added, has_route, without_route}
 use Rattle.asa_ifaces.specs.Times.{timeout_line, with_times}
 use Rattle.asa_ifaces.specs.Permits.{permits_line, with_permits}
-use Rattle.asa_classes.specs.declared.refusing.EditFault.TheVariants.{NameTaken, NotAfterStartup, NoSuchLine, TooMany}
-use Rattle.asa_classes.specs.declared.refusing.EditRefusal.{EditRefusal}
-use Rattle.asa_classes.specs.declared.refusing.EditRefusal.TheVariants.{At, NoMemory}
-use Rattle.asa_classes.specs.Judging.{Judged, ◌>>=◌, refused, line_refusal, top_read, alone}
+use Rattle.asa_config_edit.specs.declared.fault.EditFault.TheVariants.{NameTaken, NotAfterStartup, NoSuchLine, TooMany}
+use Rattle.asa_config_edit.specs.declared.fault.EditRefusal.{EditRefusal}
+use Rattle.asa_config_edit.specs.declared.fault.EditRefusal.TheVariants.{At, NoMemory}
+use Rattle.asa_config_edit.specs.Refusals.{Judged, ◌>>=◌, refused, line_refusal, top_read, alone}
 use Rattle.asa_config.specs.Settings.{Settings}
-use Rattle.asa_config.specs.Fitting.{fitting}
+use Rattle.asa_config.specs.Limits.{fitting}
 
 -- the refusal of a block for a fault of its interface or its route
 abbrev pub net_refusal : IfaceFault → EditRefusal

@@ -1,22 +1,23 @@
 -- Blocks of objects and groups, and the lines that remove one.
-use Rattle.std.specs.Prelude.{◌≡◌, ℕ, ◌<◌, ◌≤◌, true, List, Option, Some, None, find, Result, Ok, Err}
+use Rattle.std.specs.Prelude.{◌≡◌, ℕ, ◌<◌, ◌≤◌, true, List, Option, Some, None, Result, Ok, Err}
 use Rattle.std.specs.Option.{option_map}
-use Rattle.asa_text.specs.declared.grouping.Block.{Block}
-use Rattle.asa_acl.specs.Lists.{AccessLines, list_uses}
-use Rattle.asa_members.specs.Tops.{removal_at}
-use Rattle.asa_values.specs.declared.faults.ObjectFault.{ObjectFault}
-use Rattle.asa_values.specs.declared.faults.ObjectFault.TheVariants as object
-use Rattle.asa_values.specs.Defining.{defined}
-use Rattle.asa_objects.specs.Keeping.{ForName}
-use Rattle.asa_values.specs.Tables.{Table, user_of, without_name, reaches}
-use Rattle.asa_classes.specs.declared.refusing.EditFault.TheVariants.{Bad, Unsupported, Unknown, NameTaken, NoSuchLine, InUse, Cycle, TooMany, TooLarge, NotBuilt}
-use Rattle.asa_classes.specs.declared.refusing.EditRefusal.{EditRefusal}
-use Rattle.asa_classes.specs.declared.refusing.EditRefusal.TheVariants.{At, NoMemory}
-use Rattle.asa_classes.specs.Judging.{Judged, ◌>>=◌, refused, top_read, alone}
-use Rattle.asa_lists.specs.Fitting.{capped}
+use Rattle.asa_text.specs.declared.blocks.Block.{Block}
+use Rattle.asa_acl.specs.Acls.{AccessLines}
+use Rattle.asa_objects_lines.specs.Tops.{removal_at}
+use Rattle.asa_objects_values.specs.declared.faults.ObjectFault.{ObjectFault}
+use Rattle.asa_objects_values.specs.declared.faults.ObjectFault.TheVariants as object
+use Rattle.asa_objects_values.specs.Definition.{defined}
+use Rattle.asa_objects.specs.Frames.{ForName}
+use Rattle.asa_objects_values.specs.Tables.{Table, user_of, without_name, reaches}
+use Rattle.asa_config_edit.specs.declared.fault.EditFault.TheVariants.{Bad, Unsupported, Unknown, NameTaken, NoSuchLine, InUse, Cycle, TooMany, TooLarge, NotBuilt}
+use Rattle.asa_config_edit.specs.declared.fault.EditRefusal.{EditRefusal}
+use Rattle.asa_config_edit.specs.declared.fault.EditRefusal.TheVariants.{At, NoMemory}
+use Rattle.asa_config_edit.specs.Refusals.{Judged, ◌>>=◌, refused, top_read, alone}
+use Rattle.asa_acl_table.specs.Limits.{capped}
+use Rattle.asa_acl_table.specs.Lists.{first_using}
 use Rattle.asa_config.specs.Settings.{Settings}
-use Rattle.asa_config.specs.Knowing.{known_of}
-use Rattle.asa_config.specs.Fitting.{fitting}
+use Rattle.asa_config.specs.Names.{known_of}
+use Rattle.asa_config.specs.Limits.{fitting}
 
 -- the refusal of a block for a fault of its object or group
 abbrev pub object_refusal : ObjectFault → EditRefusal
@@ -27,6 +28,7 @@ object_refusal (object.Unsupported line column) = At line (Unsupported column)
 object_refusal (object.Cycle line) = At line Cycle
 object_refusal (object.NoSuchMember line) = At line NoSuchLine
 object_refusal (object.NotBuilt line) = At line NotBuilt
+object_refusal (object.NoValue column) = At 1 (Bad column)
 object_refusal object.TooMany = At 1 TooMany
 object_refusal object.NoMemory = NoMemory
 
@@ -55,14 +57,14 @@ object_step c b = do
   changed c objects
 
 -- what a new count of the lists answers, which have so many pairs
-abbrev pub Recounts : {X : Type 0} → Result X EditRefusal → ℕ → Type 0
-Recounts (Ok _) n = n ≤ 262144
+abbrev pub Recounts : Judged ℕ → ℕ → Type 0
+Recounts (Ok pairs) n = (pairs ≡ n) × (n ≤ 262144)
 Recounts (Err NoMemory) n = Unit {0}
 Recounts (Err (At line fault)) n = (262144 < n) × (At line fault ≡ At 1 (TooLarge (capped n)))
 
 -- the first list with a line that names the object or group
 abbrev pub list_using : List AccessLines → List ℕ → Option (List ℕ)
-list_using lists name = option_map (λ l. l.name) (find (list_uses name) lists)
+list_using lists name = option_map (λ l. l.name) (first_using lists name)
 
 -- no list names what a block defines, or a group that leads to it
 abbrev pub IsApart : Settings → Block → Type 0

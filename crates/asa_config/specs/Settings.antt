@@ -1,13 +1,12 @@
 -- A configuration as plain lists.
-use Rattle.std.specs.Prelude.{ℕ, Bool, ◌&&◌, ◌==◌, List, [], Option, Some, None}
+use Rattle.std.specs.Prelude.{ℕ, ◌+◌, ◌*◌, Bool, ◌&&◌, ◌==◌, nat_lt, List, [], Option, Some, None, if◌then◌else◌}
 use Rattle.std.proofs.Math.Bool.{beq}
-use Rattle.std.specs.List.{find}
 use Rattle.std.specs.Map.{lookup}
-use Rattle.std.specs.Str.{bytes_eq}
 use Rattle.asa_ifaces.specs.Interfaces.{Interfaces}
 use Rattle.asa_ifaces.specs.Interfaces as ifaces
-use Rattle.asa_acl.specs.Lists.{AccessLines}
-use Rattle.asa_values.specs.Tables.{Table}
+use Rattle.asa_acl.specs.Acls.{AccessLines}
+use Rattle.asa_objects_values.specs.Tables.{Table}
+pub use Rattle.asa_acl_table.specs.Lists.{has_name, list_among}
 
 pub record Settings : Type 0 where
   -- the interfaces, the routes, the times, and what is permitted between interfaces of one level
@@ -16,7 +15,8 @@ pub record Settings : Type 0 where
   pub objects : Table
   -- the access lists in order of first definition
   pub lists : List AccessLines
-  -- the access groups of interfaces: the number of an interface and whether its inbound side, with the name of the list
+  -- the access groups of interfaces, by rising side: the number of an interface and whether its inbound side, with the name
+  -- of the list
   pub bound : List ((ℕ × Bool) × List ℕ)
   -- the name of the list that is bound to the inbound side of every interface
   pub global : Option (List ℕ)
@@ -25,14 +25,6 @@ pub record Settings : Type 0 where
 abbrev pub nothing : Settings
 nothing = record { net = ifaces.nothing; objects = []; lists = []; bound = []; global = None }
 
--- the list has this name
-abbrev pub has_name : List ℕ → AccessLines → Bool
-has_name name l = bytes_eq name l.name
-
--- the list among these that has this name
-abbrev pub list_among : List AccessLines → List ℕ → Option AccessLines
-list_among lists name = find (has_name name) lists
-
 -- the list that has this name
 abbrev pub list_named : Settings → List ℕ → Option AccessLines
 list_named c name = list_among c.lists name
@@ -40,6 +32,14 @@ list_named c name = list_among c.lists name
 -- the two sides of interfaces are the same
 abbrev pub same_side : ℕ × Bool → ℕ × Bool → Bool
 same_side a b = (a.0 == b.0) && beq a.1 b.1
+
+-- the place of a side in their order: interface by interface, inbound before outbound
+abbrev pub side_place : ℕ × Bool → ℕ
+side_place side = 2 * side.0 + (if side.1 then 0 else 1)
+
+-- one side stands before another
+abbrev pub is_side_before : ℕ × Bool → ℕ × Bool → Bool
+is_side_before a b = nat_lt (side_place a) (side_place b)
 
 -- the name of the list that is bound to a side of an interface
 abbrev pub bound_to : List ((ℕ × Bool) × List ℕ) → ℕ × Bool → Option (List ℕ)

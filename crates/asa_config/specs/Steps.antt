@@ -1,11 +1,11 @@
 -- The step of a configuration by one block, and its fold over blocks.
-use Rattle.std.specs.Prelude.{Bool, true, List, codes, fold, Ok, Err, if◌then◌else◌}
-use Rattle.asa_text.specs.declared.grouping.Block.{Block}
+use Rattle.std.specs.Prelude.{Bool, true, false, List, codes, fold, Ok, Err, if◌then◌else◌}
+use Rattle.asa_text.specs.declared.blocks.Block.{Block}
 use Rattle.asa_text.specs.Words.{Left, line_left}
 use Rattle.asa_text.specs.Readers.{after_one, next_is}
-use Rattle.asa_classes.specs.declared.refusing.EditFault.TheVariants.{NotBuilt}
-use Rattle.asa_classes.specs.Classes.{is_passed, begins_object}
-use Rattle.asa_classes.specs.Judging.{Judged, refused, top_text}
+use Rattle.asa_config_edit.specs.declared.fault.EditFault.TheVariants.{NotBuilt}
+use Rattle.asa_config_edit.specs.Classes.{is_passed, begins_object}
+use Rattle.asa_config_edit.specs.Refusals.{Judged, refused, top_text}
 use Rattle.asa_config.specs.Settings.{Settings, nothing}
 use Rattle.asa_config.specs.Net.{interface_step, route_step, no_route_step, timeout_step, permits_step}
 use Rattle.asa_config.specs.Objects.{object_step, no_object_step}
@@ -44,14 +44,27 @@ taken_step c b startup left =
 unfoldable pub step : Settings → Block → Bool → Judged Settings
 step c b startup = if is_passed b then Ok c else taken_step c b startup (line_left (top_text b))
 
--- the configuration after a block of the startup part that is accepted
-abbrev pub after_block : Settings → Block → Settings
-after_block c b = of_step (step c b true)
+-- an edit: a block, and whether it stands in the startup part
+pub record Edit : Type 0 where
+  pub block : Block
+  pub startup : Bool
+
+-- a block of the startup part
+abbrev pub startup_edit : Block → Edit
+startup_edit b = record { block = b; startup = true }
+
+-- a block after the startup part
+abbrev pub later_edit : Block → Edit
+later_edit b = record { block = b; startup = false }
+
+-- the configuration after an edit that is accepted
+abbrev pub after_edit : Settings → Edit → Settings
+after_edit c e = of_step (step c e.block e.startup)
   where
     of_step : Judged Settings → Settings
     of_step (Ok next) = next
     of_step (Err _) = c
 
--- the configuration of startup blocks, from nothing
-unfoldable pub config_of : List Block → Settings
-config_of bs = fold after_block nothing bs
+-- the configuration of edits, from nothing
+unfoldable pub config_of : List Edit → Settings
+config_of edits = fold after_edit nothing edits

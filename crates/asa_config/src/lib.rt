@@ -2,20 +2,20 @@
 //! configuration by one block, and readers of its parts.
 #![tactic(auto)]
 
-mod binding;
-mod configuring;
-mod fitting;
-mod grouping;
-mod lining;
-mod netting;
-mod reading;
-mod stating;
-mod stepping;
+mod bindings;
+mod config;
+mod limits;
+mod lines;
+mod net;
+mod objects;
+mod places;
+mod readers;
+mod steps;
 #[cfg(test)]
 mod tests;
 
-pub use asa_classes::{Class, EditFault, EditRefusal, class_of};
+pub use asa_config_edit::{Class, EditFault, EditRefusal, class_of};
 pub use asa_ifaces::{Iface, Ifaces, RouteLine, Timeouts};
 pub use asa_objects::Objects;
 pub use asa_text::cut_blocks;
-pub use configuring::Config;
+pub use config::Config;

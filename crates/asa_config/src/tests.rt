@@ -227,6 +227,28 @@ fn a_list_that_is_defined_again_goes_last(rt: HostRuntime) {
     assert_eq!(rt; config.global_list().map(|list| list.len()), Some(1));
 }
 
+/// The side of the n-th binding.
+fn side_of(rt: &impl Abort, config: &Config, n: usize) -> (u8, bool) {
+    config.bindings().get(n).expect(rt, "a binding").0
+}
+
+#[test]
+fn bindings_stand_by_interface_and_inbound_first(rt: HostRuntime) {
+    let config = configured(
+        &rt,
+        b"access-group L out interface inside\n\
+            access-group L out interface outside\n\
+            access-group L in interface inside\n\
+            access-group L in interface outside\n\
+            access-group L out interface outside\n",
+    );
+    assert_eq!(rt; config.bindings().len(), 4);
+    assert_eq!(rt; side_of(&rt, &config, 0), (0, true));
+    assert_eq!(rt; side_of(&rt, &config, 1), (0, false));
+    assert_eq!(rt; side_of(&rt, &config, 2), (1, true));
+    assert_eq!(rt; side_of(&rt, &config, 3), (1, false));
+}
+
 #[test]
 fn a_list_has_a_box_for_each_range_of_its_ports(rt: HostRuntime) {
     let config = configured(

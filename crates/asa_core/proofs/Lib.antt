@@ -1,2 +1,3 @@
+pub mod StateLaws
 pub mod PhaseLaws
 pub mod NumberLaws

@@ -2,14 +2,14 @@
 use Rattle.std.proofs.Common.{◌≡◌, ℕ, ◌+◌, ◌<◌, ◌≤◌, true, false, cond, List, [], ◌∷◌, ◌++◌, length, All, Option, Some, None, Result, Ok, Err, refl, ◌∙◌, subst, sym, zero-add, add-zero, arith, eq-eqb, lt-ltb, length-append, option_to_list}
 use Rattle.std.specs.List.{flat_map}
 use Rattle.std.proofs.lemmas.List.Elements.{All-push, All-nil, All-cons}
-use Rattle.asa_base.specs.declared.flowing.Packet.{Packet}
+use Rattle.asa_base.specs.declared.flow.Packet.{Packet}
 use Rattle.asa_flow.specs.declared.outcomes.Decision.{Decision}
 use Rattle.asa_flow.specs.declared.outcomes.DropReason.{DropReason}
-use Rattle.asa_policy.specs.Deciding.{decide}
-use Rattle.asa_session.specs.declared.scripting.Command.{Command}
-use Rattle.asa_session.specs.declared.scripting.Command.TheVariants as command
-use Rattle.asa_session.specs.declared.scripting.PhaseText.{PhaseText}
-use Rattle.asa_session.specs.declared.scripting.Session.{Session}
+use Rattle.asa_policy.specs.Decisions.{decide}
+use Rattle.asa_session.specs.declared.session.Command.{Command}
+use Rattle.asa_session.specs.declared.session.Command.TheVariants as command
+use Rattle.asa_session.specs.declared.session.PhaseText.{PhaseText}
+use Rattle.asa_session.specs.declared.session.Session.{Session}
 use Rattle.asa_session.specs.Readiness.{IsReady}
 use Rattle.asa_core.specs.declared.history.Conn.{Conn}
 use Rattle.asa_core.specs.declared.history.Entry.{Entry}
@@ -18,9 +18,9 @@ use Rattle.asa_core.specs.declared.history.Answer.{Answer}
 use Rattle.asa_core.specs.declared.history.Answer.TheVariants as answer
 use Rattle.asa_core.specs.declared.history.Load.{Load}
 use Rattle.asa_core.specs.declared.history.Load.TheVariants as load
-use Rattle.asa_core.specs.Keys.{key_of, reply_key}
+use Rattle.asa_flow.specs.Keys.{key_of, reply_key}
 use Rattle.asa_core.specs.Machine.{Machine, ruling, init, out_of, decided, reply, entry_of, change_by, may_open, with_conn, applied, changed}
-use Rattle.asa_core.specs.Numbering.{IsNumbered}
+use Rattle.asa_core.specs.Numbers.{IsNumbered}
 use Rattle.asa_core.specs.Serial.{Progress, started, asked, asked_all, phases_run, serial}
 
 -- after some entries as many connections live, and the next id is the next number

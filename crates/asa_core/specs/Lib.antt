@@ -1,5 +1,4 @@
-pub mod Keys
-pub mod Held
+pub mod State
 pub mod Machine
-pub mod Numbering
+pub mod Numbers
 pub mod Serial

@@ -1,17 +1,16 @@
 -- The policy machine of one thread: a state, what it answers to a command, and what its entries change.
-use Rattle.std.specs.Prelude.{ℕ, ◌+◌, Bool, ◌&&◌, ◌==◌, nat_lt, List, [], ◌∷◌, ◌++◌, length, take, Option, Some, None, Result, Ok, Err, if◌then◌else◌}
+use Rattle.std.specs.Prelude.{ℕ, ◌+◌, Bool, ◌&&◌, ◌==◌, nat_lt, List, [], ◌∷◌, ◌++◌, length, map, take, Option, Some, None, Result, Ok, Err, if◌then◌else◌}
 use Rattle.std.specs.Option.{option_map}
-use Rattle.asa_text.specs.declared.grouping.Block.{Block}
-use Rattle.asa_base.specs.declared.flowing.Packet.{Packet}
-use Rattle.asa_base.specs.declared.flowing.Header.{Header}
+use Rattle.asa_base.specs.declared.flow.Packet.{Packet}
+use Rattle.asa_base.specs.declared.flow.Header.{Header}
 use Rattle.asa_config.specs.Settings.{Settings}
-use Rattle.asa_config.specs.Steps.{config_of}
+use Rattle.asa_config.specs.Steps.{Edit, startup_edit, config_of}
 use Rattle.asa_flow.specs.declared.outcomes.Decision.{Decision}
 use Rattle.asa_flow.specs.declared.outcomes.DropReason.{DropReason}
-use Rattle.asa_policy.specs.Deciding.{decide}
-use Rattle.asa_session.specs.declared.scripting.Command.{Command}
-use Rattle.asa_session.specs.declared.scripting.Command.TheVariants as command
-use Rattle.asa_session.specs.declared.scripting.Session.{Session}
+use Rattle.asa_policy.specs.Decisions.{decide}
+use Rattle.asa_session.specs.declared.session.Command.{Command}
+use Rattle.asa_session.specs.declared.session.Command.TheVariants as command
+use Rattle.asa_session.specs.declared.session.Session.{Session}
 use Rattle.asa_core.specs.declared.history.Conn.{Conn}
 use Rattle.asa_core.specs.declared.history.Entry.{Entry}
 use Rattle.asa_core.specs.declared.history.Entry.TheVariants as entry
@@ -19,11 +18,11 @@ use Rattle.asa_core.specs.declared.history.Answer.{Answer}
 use Rattle.asa_core.specs.declared.history.Answer.TheVariants as answer
 use Rattle.asa_core.specs.declared.history.Load.{Load}
 use Rattle.asa_core.specs.declared.history.Load.TheVariants as load
-use Rattle.asa_core.specs.Keys.{key_of, reply_key}
+use Rattle.asa_flow.specs.Keys.{key_of, reply_key}
 
 pub record Machine : Type 0 where
   -- the accepted edits, the startup blocks first
-  pub edits : List Block
+  pub edits : List Edit
   -- how many of them are published
   pub published : ℕ
   -- the live connections by rising id
@@ -41,7 +40,7 @@ ruling m = config_of (take m.published m.edits)
 
 -- the state that a session starts from: all startup blocks are published, and nothing is connected
 abbrev pub init : Session → ℕ → Machine
-init s capacity = record { edits = s.startup; published = length s.startup; conns = []; capacity = capacity; next = 1; clock = 0 }
+init s capacity = record { edits = map startup_edit s.startup; published = length s.startup; conns = []; capacity = capacity; next = 1; clock = 0 }
 
 -- the header with which a packet leaves: its own source, since nothing translates it yet, and the real destination
 abbrev pub out_of : Packet → Decision → Header

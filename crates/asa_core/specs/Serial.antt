@@ -1,9 +1,9 @@
 -- The serial run of a session: the commands of each phase in order, each answered at the present state.
 use Rattle.std.specs.Prelude.{ℕ, ◌+◌, List, [], ◌∷◌, ◌++◌, length, option_to_list}
 use Rattle.std.specs.List.{fold}
-use Rattle.asa_session.specs.declared.scripting.Command.{Command}
-use Rattle.asa_session.specs.declared.scripting.PhaseText.{PhaseText}
-use Rattle.asa_session.specs.declared.scripting.Session.{Session}
+use Rattle.asa_session.specs.declared.session.Command.{Command}
+use Rattle.asa_session.specs.declared.session.PhaseText.{PhaseText}
+use Rattle.asa_session.specs.declared.session.Session.{Session}
 use Rattle.asa_core.specs.declared.history.Entry.{Entry}
 use Rattle.asa_core.specs.declared.history.Answer.{Answer}
 use Rattle.asa_core.specs.declared.history.Given.{Given}

@@ -1,18 +1,20 @@
 //! The policy machine of one thread: what it answers to a command, what an entry of its history changes, and the
 //! serial run of a session.
+//!
+//! `reply` and `change` answer what the machine of the definition does at a state, and `apply` makes its step
+//! (`applied`). `run_serial` gives the reports of the serial run (`serial`). In it each connection that is opened has
+//! the number of entries before its own, plus 1, as its id (`numbered`).
 #![tactic(auto)]
 
-mod answering;
+mod answers;
 mod history;
-mod holding;
-mod keys;
-mod running;
+mod serial;
+mod state;
 
-pub use answering::{change, reply};
+pub use answers::{change, reply};
 pub use history::{Answer, Conn, Entry, Given, Load, PhaseReport};
-pub use holding::{State, apply};
-pub use keys::{header_of, key_of, reply_key};
-pub use running::run_serial;
+pub use serial::run_serial;
+pub use state::{State, apply};
 
 #[cfg(test)]
 mod tests;

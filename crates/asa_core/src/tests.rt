@@ -1,9 +1,9 @@
 //! Sessions run from their texts, and the calls of the machine one by one.
 ghost use Rattle.std.specs.Prelude.{◌≡◌};
 
-use crate::{Answer, Entry, Load, State, apply, change, header_of, key_of, reply_key, run_serial};
-use asa_base::{AccessBy, Addr, Header, Key, Name, Packet};
-use asa_flow::{Decision, DropReason, Route, SourceMap};
+use crate::{Answer, Entry, Load, State, apply, change, run_serial};
+use asa_base::{AccessBy, Addr, Header, Name, Packet};
+use asa_flow::{Decision, DropReason, Route, SourceMap, reply_key};
 use asa_policy::compile;
 use asa_session::{Command, read_session};
 use std::test::Fail;
@@ -65,21 +65,6 @@ fn third_decision() -> Decision {
         route: Route::Static(1),
         inbound: AccessBy::Level,
         outbound: AccessBy::NoList,
-    }
-}
-
-/// A packet between two hosts with these fields of ICMP.
-fn icmp(itype: u8, sport: u16, dport: u16) -> Packet {
-    Packet {
-        ifc: 1,
-        proto: 1,
-        src: CLIENT,
-        sport,
-        dst: STRANGER,
-        dport,
-        flags: 0,
-        itype,
-        icode: 0,
     }
 }
 
@@ -228,26 +213,6 @@ fn an_entry_adds_its_connection_where_its_id_is_the_next_and_there_is_room(
     apply(&mut state, &entry, load);
     assert_eq!(rt; state.next_id(), 2);
     Ok(())
-}
-
-#[test]
-fn an_echo_is_answered_by_an_echo_reply(rt: HostRuntime) {
-    let echo = icmp(8, 7, 0);
-    let key = key_of(&echo);
-    assert_eq!(rt; key.kind, 1);
-    let back = reply_key(&echo, header_of(&echo), 0);
-    let expected = Key {
-        ifc: 0,
-        proto: 1,
-        kind: 2,
-        src: STRANGER,
-        sport: 0,
-        dst: CLIENT,
-        dport: 7,
-    };
-    assert_eq!(rt; back, expected);
-    assert_eq!(rt; key_of(&icmp(0, 0, 7)).kind, 2);
-    assert_eq!(rt; key_of(&icmp(3, 0, 0)).kind, 3);
 }
 
 #[test]

@@ -8,17 +8,17 @@ use Rattle.std.proofs.lemmas.Bool.{eqb-true, leb-true, and_parts}
 use Rattle.std.proofs.lemmas.Nat.{div-add-mod'}
 use Rattle.std.proofs.lemmas.List.{append_assoc, append-nil}
 use Rattle.std.proofs.lemmas.List.Elements.{All-nil, All-cons, All-append, All-filter, All-contains, All-contains_itself, Contains-append_left, Contains-append_right, Contains-append_cases, filter_passes}
-use Rattle.asa_text.specs.declared.numbering.Addr.{Addr}
+use Rattle.asa_text.specs.declared.numbers.Addr.{Addr}
 use Rattle.asa_base.specs.Networks.{Network, is_prefix}
 use Rattle.asa_trie.specs.Bits.{height, covers_number, bit_below, is_here, is_low, is_high, home_of, IsWithin}
 use Rattle.asa_trie.specs.Tries.{sum_over, total}
 use Rattle.asa_trie.proofs.BlockLaws.{inside_at}
 use Rattle.asa_trie.proofs.SumLaws.{unit_right, sum_filter, sum_same, sum_units}
-use Rattle.asa_fib.specs.declared.holding.FibNode.{FibNode}
-use Rattle.asa_fib.specs.declared.choosing.Way.{Way}
+use Rattle.asa_fib.specs.declared.fib.FibNode.{FibNode}
+use Rattle.asa_fib.specs.declared.route.Way.{Way}
 use Rattle.asa_fib.specs.Routes.{Route, better, best_of, best_covering, route_of}
-use Rattle.asa_fib.specs.Finding.{ways, own_route, kept, found}
-use Rattle.asa_fib.specs.Building.{prefix_of, value_of, is_whole, FibGrown}
+use Rattle.asa_fib.specs.Lookup.{ways, own_route, kept, found}
+use Rattle.asa_fib.specs.Growth.{prefix_of, value_of, is_whole, FibGrown}
 use Rattle.asa_fib.proofs.WayLaws.{better_assoc, better_comm, best_keeps, way_laws, best_is_sum, walk_finds}
 
 -- joined values of two lists, one after the other

@@ -2,16 +2,16 @@
 use Rattle.std.proofs.Common.{◌≡◌, ℕ, ◌<◌, Bool, true, false, cond, ◌+◌, suc, ◌⊎◌, inl, inr, List, [], ◌∷◌, All, length, filter, get_or, drop, Option, Some, None, refl, sym, ap, ◌∙◌, arith, add-one, drop-cons}
 use Rattle.std.proofs.lemmas.Bool.Decides.{nat_tests}
 use Rattle.std.specs.Option.{IfSome, option_map}
-use Rattle.asa_text.specs.declared.numbering.Addr.{Addr}
+use Rattle.asa_text.specs.declared.numbers.Addr.{Addr}
 use Rattle.asa_trie.specs.Bits.{covers_number}
 use Rattle.asa_trie.specs.Tries.{Laws, sum_over, Grown}
 use Rattle.asa_trie.proofs.SumLaws.{sum_filter}
 use Rattle.asa_trie.proofs.TrieLaws.{root_finds}
-use Rattle.asa_fib.specs.declared.holding.FibNode.{FibNode}
-use Rattle.asa_fib.specs.declared.choosing.Way.{Way}
+use Rattle.asa_fib.specs.declared.fib.FibNode.{FibNode}
+use Rattle.asa_fib.specs.declared.route.Way.{Way}
 use Rattle.asa_fib.specs.Routes.{Route, way_of, beats, better, best_of, route_of}
-use Rattle.asa_fib.specs.Finding.{ways, links, found}
-use Rattle.asa_fib.specs.Building.{prefix_of, value_of}
+use Rattle.asa_fib.specs.Lookup.{ways, links, found}
+use Rattle.asa_fib.specs.Growth.{prefix_of, value_of}
 
 trans : (a b c : Way) → beats c b ≡ true → beats b a ≡ true → beats c a ≡ true
 trans a b c p q = grind (arith, nat_tests)

@@ -1,3 +1,3 @@
-pub mod Building
+pub mod Growth
 pub mod Routes
-pub mod Finding
+pub mod Lookup

@@ -1,9 +1,9 @@
 -- Routes, and the best of those that reach an address.
 use Rattle.std.specs.Prelude.{ℕ, Bool, ◌&&◌, ◌||◌, ◌==◌, nat_lt, List, [], ◌∷◌, filter, Option, Some, None, if◌then◌else◌}
 use Rattle.std.specs.Option.{option_map}
-use Rattle.asa_text.specs.declared.numbering.Addr.{Addr}
+use Rattle.asa_text.specs.declared.numbers.Addr.{Addr}
 use Rattle.asa_base.specs.Networks.{Network, covers}
-use Rattle.asa_fib.specs.declared.choosing.Way.{Way}
+use Rattle.asa_fib.specs.declared.route.Way.{Way}
 
 -- a prefix, a distance and a number
 abbrev pub Route : Type 0

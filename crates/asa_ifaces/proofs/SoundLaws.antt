@@ -3,11 +3,11 @@ use Rattle.std.proofs.Common.{◌≡◌, ℕ, ◌+◌, ◌<◌, ◌≤◌, Bool,
 use Rattle.std.specs.List.{list_all, filter}
 use Rattle.std.proofs.lemmas.Bool.{and_parts, and_from, ltb-true, lt-ltb, ltb-false}
 use Rattle.std.proofs.lemmas.List.Sums.{AllPass-from_list_all}
-use Rattle.asa_ifaces.specs.declared.holding.Iface.{Iface}
-use Rattle.asa_ifaces.specs.declared.holding.RouteLine.{RouteLine}
-use Rattle.asa_ifaces.specs.declared.holding.IfaceFault.{IfaceFault}
-use Rattle.asa_ifaces.specs.declared.holding.IfaceFault.TheVariants as fault
-use Rattle.asa_ifaces.specs.Answering.{Makes, Changes}
+use Rattle.asa_ifaces.specs.declared.iface.Iface.{Iface}
+use Rattle.asa_ifaces.specs.declared.iface.RouteLine.{RouteLine}
+use Rattle.asa_ifaces.specs.declared.iface.IfaceFault.{IfaceFault}
+use Rattle.asa_ifaces.specs.declared.iface.IfaceFault.TheVariants as fault
+use Rattle.asa_ifaces.specs.Answers.{Makes, Changes}
 use Rattle.asa_ifaces.specs.Interfaces.{Interfaces, IsSound, all_leave, has_mask, all_have_masks}
 use Rattle.asa_ifaces.specs.Blocks.{with_interface}
 use Rattle.asa_ifaces.specs.Routes.{with_route, without_route, has_route, same_route, routes_with, routes_without, with_routes}

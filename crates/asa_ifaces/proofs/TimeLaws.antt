@@ -1,25 +1,12 @@
--- The runs of a word between its colons, and a timeout line word by word.
-use Rattle.std.proofs.Common.{◌≡◌, ◌==◌, ℕ, ◌+◌, ◌<◌, ◌≤◌, false, List, [], ◌∷◌, length, take, drop, Option, Some, None, Ok, Err, refl, ap, subst, arith}
-use Rattle.std.specs.List.{position_or_len}
-use Rattle.std.proofs.lemmas.List.Splits.{slice_split_first, slice_split_none, length-slice_split}
-use Rattle.std.proofs.lemmas.List.Sums.{fails_before_first}
-use Rattle.std.proofs.lemmas.List.Elements.{All-from_get_or}
+-- A timeout line word by word.
+use Rattle.std.proofs.Common.{◌≡◌, ◌==◌, ℕ, ◌<◌, ◌≤◌, List, [], ◌∷◌, length, Option, Some, None, Ok, Err, refl, ap, subst, arith}
+use Rattle.std.proofs.lemmas.List.Splits.{length-slice_split}
 use Rattle.asa_text.specs.Words.{Left, Spelled}
 use Rattle.asa_text.specs.Readers.{Read, ◌>>=◌, word_at, next_word, after_one}
-use Rattle.asa_ifaces.specs.declared.holding.Timeouts.{Timeouts}
-use Rattle.asa_ifaces.specs.declared.timing.Timed.{Timed}
-use Rattle.asa_text.specs.declared.reading.LineFault.TheVariants.{Bad}
+use Rattle.asa_ifaces.specs.declared.iface.Timeouts.{Timeouts}
+use Rattle.asa_ifaces.specs.declared.timeouts.Timed.{Timed}
+use Rattle.asa_text.specs.declared.readers.LineFault.TheVariants.{Bad}
 use Rattle.asa_ifaces.specs.Times.{colon_runs, timed_of, time_at, time_of, time_or_bad, passed_or_set, with_time, after_timed, after_word, times_of, times_at, ended}
-
--- a word with a colon: its first run, and the runs of what follows
-pub runs_first : (word : List ℕ) → position_or_len (λ b. b == 58) word < length word
-    → colon_runs word ≡ take (position_or_len (λ b. b == 58) word) word ∷ colon_runs (drop (position_or_len (λ b. b == 58) word + 1) word)
-runs_first word h = slice_split_first (λ b. b == 58) word 0 h
-
--- a word without a colon is its only run
-pub runs_last : (word : List ℕ) → length word ≤ position_or_len (λ b. b == 58) word → colon_runs word ≡ word ∷ []
-runs_last word h =
-    slice_split_none (λ b. b == 58) word (All-from_get_or (λ b. (b == 58) ≡ false) word 0 (λ i l. fails_before_first (λ b. b == 58) word i 0 (omega arith)))
 
 -- each word has a run
 pub runs_some : (word : List ℕ) → 0 < length (colon_runs word)

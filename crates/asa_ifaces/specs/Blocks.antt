@@ -1,19 +1,20 @@
 -- The block of an interface: `interface HARDWARE`, and indented lines of which each replaces what an earlier one stated.
-use Rattle.std.specs.Prelude.{ℕ, ◌+◌, Bool, true, false, not, ◌&&◌, ◌||◌, ◌==◌, nat_lt, List, [], ◌∷◌, ◌++◌, length, drop, codes, Option, Some, None, is_some, Result, Ok, Err, if◌then◌else◌}
+use Rattle.std.specs.Prelude.{ℕ, ◌+◌, Bool, true, false, not, ◌&&◌, ◌||◌, ◌==◌, nat_lt, List, [], ◌∷◌, ◌++◌, length, codes, Option, Some, None, is_some, Result, Ok, Err, if◌then◌else◌}
 use Rattle.std.specs.List.{list_any}
 use Rattle.std.specs.Str.{bytes_eq}
-use Rattle.asa_text.specs.declared.lining.Line.{Line}
-use Rattle.asa_text.specs.declared.grouping.Block.{Block}
-use Rattle.asa_text.specs.declared.reading.LineFault.TheVariants.{Bad, Unsupported}
+use Rattle.asa_text.specs.declared.lines.Line.{Line}
+use Rattle.asa_text.specs.declared.blocks.Block.{Block}
+use Rattle.asa_text.specs.declared.readers.LineFault.TheVariants.{Bad}
+use Rattle.asa_text.specs.Blocks.{top_text, inner_lines}
 use Rattle.asa_text.specs.Words.{Left}
-use Rattle.asa_text.specs.Readers.{Read, ◌>>=◌, word_at, after_one, column_at, next_is, keyword_at, number_at, address_at, mask_at, end_at}
-use Rattle.asa_base.specs.Naming.{is_name, name_at}
-use Rattle.asa_ifaces.specs.declared.holding.Iface.{Iface}
-use Rattle.asa_ifaces.specs.declared.holding.IfaceFault.{IfaceFault}
-use Rattle.asa_ifaces.specs.declared.holding.IfaceFault.TheVariants.{NameTaken, TooMany}
-use Rattle.asa_ifaces.specs.declared.stating.Stated.{Stated}
+use Rattle.asa_text.specs.Readers.{Read, ◌>>=◌, word_at, after_one, next_is, unsupported_next, keyword_at, number_at, address_at, mask_at, end_at}
+use Rattle.asa_base.specs.Names.{is_name, name_at}
+use Rattle.asa_ifaces.specs.declared.iface.Iface.{Iface}
+use Rattle.asa_ifaces.specs.declared.iface.IfaceFault.{IfaceFault}
+use Rattle.asa_ifaces.specs.declared.iface.IfaceFault.TheVariants.{NameTaken, TooMany}
+use Rattle.asa_ifaces.specs.declared.stated.Stated.{Stated}
 use Rattle.asa_ifaces.specs.Interfaces.{Interfaces, number_among}
-use Rattle.asa_ifaces.specs.Answering.{of_text, of_line, at_line, and_then}
+use Rattle.asa_ifaces.specs.Answers.{of_text, of_line, at_line, and_then}
 
 -- no line of the block has stated anything
 abbrev pub unstated : Stated
@@ -73,7 +74,7 @@ own_address_line s left = do
 
 -- `ip address ..`, after its first two words
 unfoldable pub address_line : Stated → Left → Read Stated
-address_line s left = if is_leased left then Err (Unsupported (column_at left)) else own_address_line s left
+address_line s left = if is_leased left then Err (unsupported_next left) else own_address_line s left
 
 -- the next two words are `ip address`
 abbrev pub is_ip_address : Left → Bool
@@ -149,19 +150,14 @@ hardware_line left = do
 abbrev pub free_hardware : List Iface → List ℕ → Result (List ℕ) IfaceFault
 free_hardware ifaces hardware = if has_hardware ifaces hardware then Err (NameTaken 1) else Ok hardware
 
--- the top line of a block
-abbrev pub top_text : List Line → List ℕ
-top_text [] = []
-top_text (top ∷ _) = top.text
-
 -- the hardware name that the top line of a block states
 unfoldable pub hardware_of : List Iface → Block → Result (List ℕ) IfaceFault
-hardware_of ifaces b = and_then (at_line 1 (of_text hardware_line (top_text b.lines))) (free_hardware ifaces)
+hardware_of ifaces b = and_then (at_line 1 (of_text hardware_line (top_text b))) (free_hardware ifaces)
 
 -- the interface that a block describes, which is to be beside these
 unfoldable pub interface_of_block : List Iface → Block → Result Iface IfaceFault
 interface_of_block ifaces b = and_then (hardware_of ifaces b)
-    (λ hardware. and_then (stated_by ifaces 2 unstated (drop 1 b.lines)) (λ s. Ok (described hardware s)))
+    (λ hardware. and_then (stated_by ifaces 2 unstated (inner_lines b)) (λ s. Ok (described hardware s)))
 
 -- what is configured after an interface has gone to the end
 abbrev pub with_interface : Interfaces → Iface → Interfaces

@@ -2,10 +2,11 @@
 use Rattle.std.specs.Prelude.{◌≡◌, ℕ, ◌≤◌, Bool, true, false, nat_lt, nat_le, List, [], length, slice_get, Option, Some, None, is_some}
 use Rattle.std.specs.List.{position, list_all}
 use Rattle.std.specs.Str.{bytes_eq}
-use Rattle.asa_text.specs.declared.numbering.Addr.{Addr}
-use Rattle.asa_ifaces.specs.declared.holding.Iface.{Iface}
-use Rattle.asa_ifaces.specs.declared.holding.RouteLine.{RouteLine}
-use Rattle.asa_ifaces.specs.declared.holding.Timeouts.{Timeouts}
+use Rattle.asa_text.specs.declared.numbers.Addr.{Addr}
+use Rattle.asa_base.specs.Kinds.{Known}
+use Rattle.asa_ifaces.specs.declared.iface.Iface.{Iface}
+use Rattle.asa_ifaces.specs.declared.iface.RouteLine.{RouteLine}
+use Rattle.asa_ifaces.specs.declared.iface.Timeouts.{Timeouts}
 
 -- interfaces, routes, times, and what is permitted between interfaces of one level
 pub record Interfaces : Type 0 where
@@ -68,6 +69,16 @@ address_of i ifc = of_iface (slice_get i.ifaces ifc)
     of_iface : Option Iface → Option Addr
     of_iface None = None
     of_iface (Some iface) = named_address iface
+
+-- what the readers of lines know of names by these alone: neither objects nor groups
+abbrev pub known_in : Interfaces → Known
+known_in i = record {
+  kind_of = λ _. None;
+  interface_of = interface_of i;
+  port_proto = λ _. None;
+  service_range = λ _. None;
+  address_of = address_of i;
+}
 
 -- an own address, where there is one, has a mask of at most 32 ones
 abbrev pub has_mask : Option (Addr × ℕ) → Bool

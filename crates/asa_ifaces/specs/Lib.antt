@@ -1,5 +1,5 @@
 pub mod Interfaces
-pub mod Answering
+pub mod Answers
 pub mod Blocks
 pub mod Routes
 pub mod Times

@@ -1,10 +1,10 @@
 -- `[no] same-security-traffic permit inter-interface|intra-interface`.
 use Rattle.std.specs.Prelude.{ℕ, Bool, List, codes, Option, Some, None, unwrap_or, Ok, Err, if◌then◌else◌}
-use Rattle.asa_text.specs.declared.reading.LineFault.TheVariants.{Bad}
+use Rattle.asa_text.specs.declared.readers.LineFault.TheVariants.{Bad}
 use Rattle.asa_text.specs.Words.{Left}
 use Rattle.asa_text.specs.Readers.{Read, ◌>>=◌, word_at, after_one, next_is, keyword_at, end_at}
 use Rattle.std.specs.Str.{bytes_eq}
-use Rattle.asa_ifaces.specs.declared.holding.Permits.{Permits}
+use Rattle.asa_ifaces.specs.declared.iface.Permits.{Permits}
 use Rattle.asa_ifaces.specs.Interfaces.{Interfaces}
 
 -- what is configured after the flags that are stated

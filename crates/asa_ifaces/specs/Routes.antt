@@ -1,17 +1,16 @@
 -- Route lines: `[no] route I A M A [DISTANCE]`, where `0` stands for 0.0.0.0.
 use Rattle.std.specs.Prelude.{ℕ, Bool, not, ◌&&◌, ◌||◌, ◌==◌, nat_lt, List, [], ◌∷◌, length, codes, is_none, Result, Ok, Err, if◌then◌else◌}
 use Rattle.std.specs.List.{filter, list_any}
-use Rattle.asa_text.specs.declared.lining.Line.{Line}
-use Rattle.asa_text.specs.declared.reading.LineFault.TheVariants.{Unsupported}
+use Rattle.asa_text.specs.declared.lines.Line.{Line}
 use Rattle.asa_text.specs.Words.{Left}
-use Rattle.asa_text.specs.Readers.{Read, ◌>>=◌, next_word, next_is, column_at, keyword_at, number_at, end_at}
+use Rattle.asa_text.specs.Readers.{Read, ◌>>=◌, next_word, next_is, unsupported_next, keyword_at, number_at, end_at}
 use Rattle.asa_base.specs.Networks.{zero_or_address_at, route_network_at}
-use Rattle.asa_base.specs.Reading.{interface_at}
-use Rattle.asa_ifaces.specs.declared.holding.RouteLine.{RouteLine}
-use Rattle.asa_ifaces.specs.declared.holding.IfaceFault.{IfaceFault}
-use Rattle.asa_ifaces.specs.declared.holding.IfaceFault.TheVariants.{NoSuchLine, TooMany}
+use Rattle.asa_base.specs.Readers.{interface_at}
+use Rattle.asa_ifaces.specs.declared.iface.RouteLine.{RouteLine}
+use Rattle.asa_ifaces.specs.declared.iface.IfaceFault.{IfaceFault}
+use Rattle.asa_ifaces.specs.declared.iface.IfaceFault.TheVariants.{NoSuchLine, TooMany}
 use Rattle.asa_ifaces.specs.Interfaces.{Interfaces, interface_of}
-use Rattle.asa_ifaces.specs.Answering.{of_line, at_line, and_then}
+use Rattle.asa_ifaces.specs.Answers.{of_line, at_line, and_then}
 
 -- the next word is one of the options of a route line, which this project leaves out
 abbrev pub is_route_option : Left → Bool
@@ -20,12 +19,12 @@ is_route_option left = next_is (codes "tunneled") left || next_is (codes "track"
 -- the distance, 1 where the line ends before it
 unfoldable pub distance_at : Left → Read ℕ
 distance_at left =
-    if is_route_option left then Err (Unsupported (column_at left))
+    if is_route_option left then Err (unsupported_next left)
     else (if is_none (next_word left) then Ok (1, left) else number_at 1 255 left)
 
 -- the line's end
 unfoldable pub route_end_at : Left → Read (Unit {0})
-route_end_at left = if is_route_option left then Err (Unsupported (column_at left)) else end_at left
+route_end_at left = if is_route_option left then Err (unsupported_next left) else end_at left
 
 -- a whole route line
 unfoldable pub route_line : Interfaces → Left → Read RouteLine

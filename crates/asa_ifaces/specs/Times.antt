@@ -1,20 +1,20 @@
 -- `timeout ..`: each of the words `conn`, `half-closed`, `udp` and `icmp` is followed by a time `H:MM:SS`; every other
 -- word is ignored.
 use Rattle.std.specs.Prelude.{ℕ, ◌+◌, ◌*◌, ◌==◌, nat_le, List, [], ◌∷◌, length, codes, Option, Some, None, Result, Ok, Err, if◌then◌else◌}
-use Rattle.std.specs.List.{slice_split}
 use Rattle.std.specs.Str.{bytes_eq}
-use Rattle.asa_text.specs.declared.lining.Line.{Line}
-use Rattle.asa_text.specs.declared.numbering.WordFault.{WordFault}
-use Rattle.asa_text.specs.declared.reading.LineFault.{LineFault}
-use Rattle.asa_text.specs.declared.reading.LineFault.TheVariants.{Bad}
+use Rattle.asa_text.specs.declared.lines.Line.{Line}
+use Rattle.asa_text.specs.declared.numbers.WordFault.{WordFault}
+use Rattle.asa_text.specs.declared.readers.LineFault.{LineFault}
+use Rattle.asa_text.specs.declared.readers.LineFault.TheVariants.{Bad}
 use Rattle.asa_text.specs.Words.{Left, Spelled}
 use Rattle.asa_text.specs.Numbers.{number_of}
+use Rattle.asa_text.specs.Runs.{runs_between}
 use Rattle.asa_text.specs.Readers.{Read, ◌>>=◌, word_at, keyword_at}
-use Rattle.asa_ifaces.specs.declared.holding.Timeouts.{Timeouts}
-use Rattle.asa_ifaces.specs.declared.timing.Timed.{Timed}
-use Rattle.asa_ifaces.specs.declared.timing.Timed.TheVariants.{Conn, HalfClosed, Udp, Icmp}
+use Rattle.asa_ifaces.specs.declared.iface.Timeouts.{Timeouts}
+use Rattle.asa_ifaces.specs.declared.timeouts.Timed.{Timed}
+use Rattle.asa_ifaces.specs.declared.timeouts.Timed.TheVariants.{Conn, HalfClosed, Udp, Icmp}
 use Rattle.asa_ifaces.specs.Interfaces.{Interfaces}
-use Rattle.asa_ifaces.specs.Answering.{of_line, and_then}
+use Rattle.asa_ifaces.specs.Answers.{of_line, and_then}
 
 -- a number of a word, where it is one
 abbrev pub some_number : Result ℕ WordFault → Option ℕ
@@ -42,7 +42,7 @@ in_seconds (Some h) (Some m) (Some s) = Some (h * 3600 + m * 60 + s)
 
 -- the runs of a word between its colons
 abbrev pub colon_runs : List ℕ → List (List ℕ)
-colon_runs word = slice_split (λ b. b == 58) word
+colon_runs word = runs_between 58 word
 
 -- the seconds of three runs, which are hours, minutes and seconds
 abbrev pub time_of_runs : List (List ℕ) → Option ℕ

@@ -1,5 +1,5 @@
-pub mod Adding
-pub mod Prefixes
-pub mod Publishing
-pub mod Reaching
-pub mod Steps
+pub mod AddLaws
+pub mod PrefixLaws
+pub mod PublishLaws
+pub mod ReachLaws
+pub mod StepLaws

@@ -1,7 +1,7 @@
 pub mod Copies
 pub mod Counts
 pub mod History
-pub mod Listing
+pub mod Words
 pub mod Meetings
 pub mod Phases
 pub mod Readers

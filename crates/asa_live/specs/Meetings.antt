@@ -2,8 +2,8 @@
 use Rattle.std.specs.Prelude.{ℕ, ◌≡◌, ◌<◌, List, length}
 use mathlib.Core.List.{IsPrefix}
 use Rattle.asa_live.specs.Counts.{Rose}
-use Rattle.asa_live.specs.declared.meeting.Meeting.{Meeting}
-use Rattle.asa_live.specs.declared.meeting.Meeting.TheVariants.{Within, Ahead, Away}
+use Rattle.asa_live.specs.declared.meetings.Meeting.{Meeting}
+use Rattle.asa_live.specs.declared.meetings.Meeting.TheVariants.{Within, Ahead, Away}
 
 abbrev pub Tells : {D : Type 0} → List D → List D → List D → ℕ → ℕ → Meeting → Type 0
 Tells seen history now before after Within = IsPrefix seen history × (now ≡ history)

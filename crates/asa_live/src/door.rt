@@ -6,7 +6,7 @@
 //! copy, or gave one that lacks what the reader has seen. The rule of the copies says that the second never comes about, but
 //! since the ruled forms don't say that a seat stays at its table, it is tested and counted.
 //! Outside this module the count can't be written. Tests show that reads succeed.
-ghost use Rattle.std.specs.Prelude.{◌≡◌, ◌≤◌, IfOk, IfErr};
+ghost use Rattle.std.specs.Prelude.{◌≡◌, IfOk, IfErr};
 ghost use mathlib.Core.List.{IsPrefix};
 ghost use Rattle.left_right.specs.Sides.{view};
 ghost use Rattle.asa_live.specs.Copies.{Knows};
@@ -40,8 +40,7 @@ impl<M: Machine> Drop for Given<M> {
 
 // A count that stands still at its type's end.
 fn one_more(aways: u64) -> u64
-    ensures rose { Rose aways result }
-    ensures never_falls { aways ≤ result }
+    ensures { Rose aways result }
 {
     aways.saturating_add(1)
 }
@@ -61,7 +60,7 @@ impl<M: Machine> Door<M> {
         ensures on { IfOk result (λ g. IsPrefix least.now.seen.log g.reading.part.value.front.seen.log × (g.reading.part.value.front.seen.book ≡ least.now.seen.book)) }
         ensures uncounted { IfOk result (λ g. g.aways ≡ self.aways) }
         ensures inside { IfOk result (λ g. Knows (view g.reading.place) least.now.seen.book) }
-        ensures away { IfErr result (λ d. Rose self.aways d.aways × (self.aways ≤ d.aways)) }
+        ensures away { IfErr result (λ d. Rose self.aways d.aways) }
         ensures outside { IfErr result (λ d. Knows (view d.seat.place) least.now.seen.book) }
     {
         let Door { seat, aways } = self;

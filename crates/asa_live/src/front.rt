@@ -2,7 +2,7 @@
 //! word that the writer holds, the list's length. A front is a number, the length of the beginning that was seen.
 ghost use Rattle.std.specs.Prelude.{◌≡◌, ◌++◌, ◌∷◌, ◌<◌, [], length, IfSome, MatchBool};
 ghost use mathlib.Core.List.{IsPrefix};
-ghost use Rattle.asa_live.specs.Listing.{head_of};
+ghost use Rattle.asa_live.specs.Words.{head_of};
 
 use crate::deed::Deed;
 use logbook::{Gain, Offer, Plain, Play, Rule, Seen, Start, Word};
@@ -13,7 +13,7 @@ pub struct Law;
 impl<E, L> Rule<Deed<E, L>, u64> for Law {
     ghost use Rattle.std.specs.Prelude.{[]};
     ghost use base.Fml.{ftrue};
-    ghost use Rattle.asa_live.specs.Listing.{IsKept};
+    ghost use Rattle.asa_live.specs.Words.{IsKept};
 
     ghost holds = { λ cells log. IsKept cells log };
 
@@ -41,7 +41,7 @@ impl<E, L> Gain<Deed<E, L>, u64> for Nothing {
 pub struct Add;
 
 impl<E, L> Play<Deed<E, L>, u64> for Add {
-    ghost use Rattle.asa_live.specs.Listing.{Adds};
+    ghost use Rattle.asa_live.specs.Words.{Adds};
 
     ghost then = { Adds };
 }

@@ -1,12 +1,12 @@
 //! Readers: they open the published state, and wait for nobody.
-ghost use Rattle.std.specs.Prelude.{◌≡◌, ◌≤◌, IfOk, IfErr, IfSome, IfNone, IsSome, None, length};
+ghost use Rattle.std.specs.Prelude.{◌≡◌, IfOk, IfErr, IfSome, IfNone, IsSome, None, length};
 ghost use mathlib.Core.List.{IsPrefix};
 ghost use Rattle.left_right.specs.Sides.{view};
 ghost use Rattle.asa_live.specs.Copies.{Knows};
 ghost use Rattle.asa_live.specs.Counts.{Rose};
 ghost use Rattle.asa_live.specs.History.{Reaches};
 ghost use Rattle.asa_live.specs.Phases.{aways_of, known_of, opened_of};
-ghost use Rattle.asa_live.specs.Readers.{GoesOn};
+ghost use Rattle.asa_live.specs.Readers.{GoesOn, StaysOut};
 
 use crate::door::{Door, Given};
 use crate::front::Front;
@@ -59,7 +59,7 @@ fn enter<M: Machine>(
     ensures on { IfSome result.1 (λ f. IsPrefix least.now.seen.log f.seen.log × (f.seen.book ≡ least.now.seen.book)) }
     ensures opened { IfSome result.1 (λ f. (s : _) × (opened_of result.0 ≡ Some s) × Reaches M.is_first M.next M.fits f.seen.log s) }
     ensures uncounted { IfSome result.1 (λ _. aways_of result.0 ≡ aways_of phase) }
-    ensures away { IfNone result.1 ((opened_of result.0 ≡ None) × Rose (aways_of phase) (aways_of result.0) × (aways_of phase ≤ aways_of result.0)) }
+    ensures away { IfNone result.1 ((opened_of result.0 ≡ None) × Rose (aways_of phase) (aways_of result.0)) }
 {
     match phase {
         Phase::Out(door) => match door.enter(least) {
@@ -93,7 +93,7 @@ impl<M: Machine> Reader<M> {
         ensures on { GoesOn self.old self.new }
         ensures read { IfOk result (λ n. (n ≡ length self.new.seen) × ((s : _) × (self.new.opened ≡ Some s) × Reaches M.is_first M.next M.fits self.new.seen s)) }
         ensures uncounted { IfOk result (λ _. self.new.aways ≡ self.old.aways) }
-        ensures away { IfErr result (λ _. (self.new.opened ≡ None) × (self.new.seen ≡ self.old.seen) × Rose self.old.aways self.new.aways) }
+        ensures away { IfErr result (λ _. StaysOut self.old self.new) }
     {
         let Some(front) = replace_with(&mut self.phase, &self.front, enter) else {
             return Err(Away);

@@ -1,6 +1,6 @@
 //! The writer: it adds entries to the history, one after another, and publishes each.
 ghost use Rattle.std.specs.Prelude.{◌≡◌, ◌++◌, ◌∷◌, [], drop, false, length, IfOk, IfErr, OnErr, IsErr, IsTrue, ◌↔◌};
-ghost use Rattle.asa_live.specs.Listing.{head_of};
+ghost use Rattle.asa_live.specs.Words.{head_of};
 
 use crate::deed::Deed;
 use crate::front::{Front, Head};
@@ -43,7 +43,7 @@ where
 {
     ghost use Rattle.std.specs.Prelude.{◌≡◌, [], drop, false};
     ghost use Rattle.std.specs.Mem.{manually_drop_value};
-    ghost use Rattle.asa_live.specs.Listing.{head_of};
+    ghost use Rattle.asa_live.specs.Words.{head_of};
     ghost use Rattle.asa_live.specs.Writers.{Written};
 
     ghost Value = { Written M.State M.Entry M.Load };

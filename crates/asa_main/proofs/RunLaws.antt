@@ -5,7 +5,7 @@ use Rattle.asa_io.specs.Told.{TakesAll, Exceeds}
 use Rattle.asa_main.specs.declared.statuses.Reason.TheVariants as reason
 use Rattle.asa_main.specs.declared.statuses.Status.{Status}
 use Rattle.asa_main.specs.declared.statuses.Status.TheVariants as status
-use Rattle.asa_session.specs.declared.scripting.Session.{Session}
+use Rattle.asa_session.specs.declared.session.Session.{Session}
 use Rattle.asa_main.specs.Outcome.{Answers, Ends, Judges, Says, Writes, judged, report_of, session_limit}
 
 abbrev ends_of : Option (List ℕ) → Option (List ℕ) → ℕ → ℕ → Ends

@@ -3,9 +3,9 @@ use Rattle.std.specs.Prelude.{◌≡◌, ℕ, Bool, true, false, ◌≤◌, nat_
 use Rattle.std.specs.Str.{bytes_eq}
 use Rattle.std.specs.Io.KnownBytes.{Appends}
 use Rattle.asa_io.specs.Faults.{Rose}
-use Rattle.asa_session.specs.declared.scripting.Session.{Session}
-use Rattle.asa_session.specs.declared.scripting.SessionError.{SessionError}
-use Rattle.asa_session.specs.declared.scripting.SessionError.TheVariants.{At, NoMemory}
+use Rattle.asa_session.specs.declared.session.Session.{Session}
+use Rattle.asa_session.specs.declared.session.SessionError.{SessionError}
+use Rattle.asa_session.specs.declared.session.SessionError.TheVariants.{At, NoMemory}
 use Rattle.asa_session.specs.Sessions.{session_of}
 use Rattle.asa_core.specs.Serial.{serial}
 use Rattle.asa_report.specs.Report.{text}

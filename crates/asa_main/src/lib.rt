@@ -5,10 +5,10 @@
 mod examples;
 #[cfg(test)]
 mod policies;
-mod running;
+mod program;
 mod statuses;
 #[cfg(test)]
 mod tests;
 
-pub use running::run;
+pub use program::run;
 pub use statuses::{Reason, Status, exit_code, write_status};

@@ -2,30 +2,30 @@
 use Rattle.std.proofs.Common.{◌≡◌, ℕ, ◌+◌, Bool, true, false, cond, not, if◌then◌else◌, List, [], ◌∷◌, ◌++◌, Option, Some, None, Result, Ok, Err, is_some, refl, subst, arith}
 use Rattle.std.specs.List.{AllByRecursion, filter, list_any}
 use Rattle.std.specs.Option.{option_map}
-use Rattle.asa_text.specs.declared.lining.Line.{Line}
-use Rattle.asa_text.specs.declared.grouping.Block.{Block}
+use Rattle.asa_text.specs.Blocks.{inner_lines}
+use Rattle.asa_text.specs.declared.lines.Line.{Line}
+use Rattle.asa_text.specs.declared.blocks.Block.{Block}
 use Rattle.asa_text.specs.Words.{line_left}
 use Rattle.asa_text.specs.Readers.{Read}
-use Rattle.asa_members.specs.declared.blocking.BlockKind.{BlockKind}
-use Rattle.asa_members.specs.declared.stating.Item.{Item}
-use Rattle.asa_members.specs.declared.stating.ObjectValue.{ObjectValue}
-use Rattle.asa_members.specs.declared.stating.ObjectValue.TheVariants as value
-use Rattle.asa_members.specs.declared.stating.Statement.{Statement}
-use Rattle.asa_members.specs.declared.stating.Statement.TheVariants as says
-use Rattle.asa_members.specs.declared.topping.Top.{Top}
-use Rattle.asa_members.specs.Blocks.{kind_of_block}
-use Rattle.asa_members.specs.Groups.{statement_at}
-use Rattle.asa_values.specs.declared.faults.ObjectFault.{ObjectFault}
-use Rattle.asa_values.specs.declared.faults.ObjectFault.TheVariants as fault
-use Rattle.asa_values.specs.Tables.{Entry, Table, entry_of, items_of, named, reaches, refers_to, known_of}
-use Rattle.asa_ranks.specs.Ranks.{IsSound, IsThere, Ranks, Uses, label_of}
-use Rattle.asa_ranks.specs.Changing.{Fits}
-use Rattle.asa_objects.specs.Drafting.{drafted_by}
-use Rattle.asa_values.specs.Defining.{after_line, after_lines, and_then, has_item, inner_lines, item_of_value, leads_to, read_at, same_item, stated, with_item, without_item}
-use Rattle.asa_values.proofs.ReachLaws.{test_of}
-use Rattle.asa_values.proofs.ListLaws.{all-push}
-use Rattle.asa_ranks.proofs.ClimbLaws.{above-it, refers-below}
-use Rattle.asa_ranks.proofs.ChangeLaws.{each-ref, from-ref}
+use Rattle.asa_objects_lines.specs.declared.kinds.BlockKind.{BlockKind}
+use Rattle.asa_objects_lines.specs.declared.statement.Item.{Item}
+use Rattle.asa_objects_lines.specs.declared.statement.ObjectValue.{ObjectValue}
+use Rattle.asa_objects_lines.specs.declared.statement.ObjectValue.TheVariants as value
+use Rattle.asa_objects_lines.specs.declared.statement.Statement.{Statement}
+use Rattle.asa_objects_lines.specs.declared.statement.Statement.TheVariants as says
+use Rattle.asa_objects_lines.specs.declared.top.Top.{Top}
+use Rattle.asa_objects_lines.specs.Blocks.{kind_of_block}
+use Rattle.asa_objects_lines.specs.Groups.{statement_at}
+use Rattle.asa_objects_values.specs.declared.faults.ObjectFault.{ObjectFault}
+use Rattle.asa_objects_values.specs.declared.faults.ObjectFault.TheVariants as fault
+use Rattle.asa_objects_values.specs.Tables.{Entry, Table, entry_of, items_of, named, reaches, refers_to, known_of}
+use Rattle.asa_objects_table.specs.Ranks.{IsSound, IsThere, Ranks, Uses, label_of}
+use Rattle.asa_objects_table.specs.Changes.{Fits}
+use Rattle.asa_objects_values.specs.Definition.{after_line, after_lines, and_then, has_item, item_of_value, leads_to, read_at, same_item, stated, with_item, without_item, stated_by}
+use Rattle.asa_objects_values.proofs.ReachLaws.{test_of}
+use Rattle.asa_objects_values.proofs.ListLaws.{all-push}
+use Rattle.asa_objects_table.proofs.ClimbLaws.{above-it, refers-below}
+use Rattle.asa_objects_table.proofs.ChangeLaws.{each-ref, from-ref}
 use Rattle.asa_objects.proofs.StateLaws.{Passes, IsKnown, States, states-known}
 
 all-kept : (P : Item → Type 0) (p : Item → Bool) (xs : List Item) → AllByRecursion P xs → AllByRecursion P (filter p xs)
@@ -72,8 +72,8 @@ module _ (t : Table) (name : List ℕ) where
       by true h = let same : without_item items i ≡ out = cc in subst AllFit same (all-kept (λ j. Fits t name (named j)) (λ j. not (same_item i j)) items all)
       by false h = absurd (cc)
   said n items out says.Nothing all k e = let same : items ≡ out = cc in subst AllFit same all
-  said n items out says.Nat all k e = absurd (cc)
-  said n items out says.NoNat all k e = absurd (cc)
+  said n items out says.Nat all k e = let same : items ≡ out = cc in subst AllFit same all
+  said n items out says.NoNat all k e = let same : items ≡ out = cc in subst AllFit same all
 
   line-fits : (kind : BlockKind) (n : ℕ) (items out : List Item) (l : Line) → AllFit items → after_line t name kind n items l ≡ Ok out → AllFit out
   line-fits kind n items out l all e = by (statement_at (known_of t) kind (line_left l.text)) (states-known (known_of t) kind (line_left l.text)) e
@@ -108,7 +108,7 @@ module _ (t : Table) (name : List ℕ) where
                 absurd (omega (arith, le, lt))
 
 -- so do those that its block leaves it
-pub drafted-fit : (t : Table) (ranks : Ranks) (uses : Uses) (stamp : ℕ) → IsSound t ranks uses stamp → (b : Block) (top : Top) (items : List Item) → drafted_by t b top ≡ Ok items
+pub drafted-fit : (t : Table) (ranks : Ranks) (uses : Uses) (stamp : ℕ) → IsSound t ranks uses stamp → (b : Block) (top : Top) (items : List Item) → stated_by t b top ≡ Ok items
     → AllByRecursion (λ i. Fits t top.name (named i)) items
 drafted-fit t ranks uses stamp sound b top items drafted =
     lines-fit t top.name top.block 2 (items_of t top.name) items (inner_lines b) (former-fit t top.name ranks uses stamp sound) drafted

@@ -2,26 +2,27 @@
 use Rattle.std.proofs.Common.{◌≡◌, ℕ, ◌+◌, ◌<◌, suc, zero, Bool, true, false, cond, ◌||◌, if◌then◌else◌, List, [], ◌∷◌, ◌++◌, length, Option, Some, None, Result, Ok, Err, OnOk, refl, sym, ap, subst, ◌∙◌, arith}
 use Rattle.std.specs.List.{flat_map, list_any, AllByRecursion}
 use Rattle.std.proofs.lemmas.Bool.{false≢true}
-use Rattle.asa_text.specs.declared.grouping.Block.{Block}
+use Rattle.asa_text.specs.Blocks.{top_text}
+use Rattle.asa_text.specs.declared.blocks.Block.{Block}
 use Rattle.asa_text.specs.Words.{line_left}
-use Rattle.asa_members.specs.declared.stating.Item.{Item}
-use Rattle.asa_members.specs.declared.topping.Top.{Top}
-use Rattle.asa_members.specs.Items.{item_services}
-use Rattle.asa_members.specs.Tops.{top_at}
-use Rattle.asa_values.specs.declared.faults.ObjectFault.{ObjectFault}
-use Rattle.asa_values.specs.declared.faults.ObjectFault.TheVariants as fault
-use Rattle.asa_values.specs.Spreads.{of_name, spread}
-use Rattle.asa_values.specs.Tables.{Entry, Table, entry_of, items_in, items_of, named, own_members, group_at, reaches, refers_to, same_name, with_entry, without_name}
-use Rattle.asa_ranks.specs.Ranks.{IsSound, Ranks, Uses, label_of}
-use Rattle.asa_values.specs.Defining.{and_then, read_at, top_text, is_within, limited, lacks_value, completed, begun, opened, opened_from, same_block, changed_by, defined_by, Defines}
-use Rattle.asa_objects.specs.Keeping.{IsKept, KeepsApart, KeepsOthers, KeepsRest}
-use Rattle.asa_values.proofs.SpreadLaws.{Below, Falls, Among, flat_map-same}
-use Rattle.asa_values.proofs.LabelLaws.{same-is}
-use Rattle.asa_values.proofs.ReachLaws.{test_of}
-use Rattle.asa_ranks.proofs.RankLaws.{IsLabelled, labelled, number, number-falls, number-few, reaches-items}
-use Rattle.asa_ranks.proofs.UseLaws.{same-sym}
-use Rattle.asa_ranks.proofs.ChangeLaws.{each-ref}
-use Rattle.asa_ranks.proofs.PutLaws.{entry-put}
+use Rattle.asa_objects_lines.specs.declared.statement.Item.{Item}
+use Rattle.asa_objects_lines.specs.declared.top.Top.{Top}
+use Rattle.asa_objects_lines.specs.Items.{item_services}
+use Rattle.asa_objects_lines.specs.Tops.{top_at}
+use Rattle.asa_objects_values.specs.declared.faults.ObjectFault.{ObjectFault}
+use Rattle.asa_objects_values.specs.declared.faults.ObjectFault.TheVariants as fault
+use Rattle.asa_objects_values.specs.Spreads.{of_name, spread}
+use Rattle.asa_objects_values.specs.Tables.{Entry, Table, entry_of, items_in, items_of, named, own_members, group_at, reaches, refers_to, same_name, with_entry, without_name}
+use Rattle.asa_objects_table.specs.Ranks.{IsSound, Ranks, Uses, label_of}
+use Rattle.asa_objects_values.specs.Definition.{and_then, read_at, is_within, limited, missing_column, replaced, stated_by, with_value, begun, opened, opened_from, same_block, changed_by, defined_by, Defines}
+use Rattle.asa_objects.specs.Frames.{IsKept, KeepsApart, KeepsOthers, KeepsRest}
+use Rattle.asa_objects_values.proofs.SpreadLaws.{Below, Falls, Among, flat_map-same}
+use Rattle.asa_objects_values.proofs.LabelLaws.{same-is}
+use Rattle.asa_objects_values.proofs.ReachLaws.{test_of}
+use Rattle.asa_objects_table.proofs.RankLaws.{IsLabelled, labelled, number, number-falls, number-few, reaches-items}
+use Rattle.asa_objects_table.proofs.UseLaws.{same-sym}
+use Rattle.asa_objects_table.proofs.ChangeLaws.{each-ref}
+use Rattle.asa_objects_table.proofs.PutLaws.{entry-put}
 use Rattle.asa_objects.proofs.DefineLaws.{made_of}
 
 -- names whose items and what these give are the same, and lead to such names alone, give the same
@@ -114,21 +115,15 @@ limited-ok n t new h = by (is_within n t) h
     by true e = cc
     by false e = absurd (cc)
 
-completed-ok : (t new : Table) (top : Top) (missing : ℕ) (items : List Item) → completed t top missing items ≡ Ok new → with_entry t top.name (made_of top.block items) ≡ new
-completed-ok t new top missing items h = by (lacks_value top.block items) h
-  where
-    by : (b : Bool) → (if b then Err (fault.Bad 1 missing) else limited (length t) (with_entry t top.name (made_of top.block items))) ≡ Ok new → with_entry t top.name (made_of top.block items) ≡ new
-    by true e = absurd (cc)
-    by false e = limited-ok (length t) (with_entry t top.name (made_of top.block items)) new e
-
 put-apart : (t : Table) (name : List ℕ) (made : Entry) (q : List ℕ) → same_name name q ≡ false → entry_of (with_entry t name made) q ≡ entry_of t q
 put-apart t name made q e = entry-put t name made q ∙ ap (λ (b : Bool). cond b (Some made) (entry_of t q)) e
 
 changed-apart : (t new : Table) (b : Block) (top : Top) → changed_by t b top ≡ Ok new → (q : List ℕ) → same_name top.name q ≡ false → entry_of new q ≡ entry_of t q
 unfolding changed_by
 changed-apart t new b top h q apart =
-    let read = then-ok _ (λ items. completed t top (length (top_text b) + 1) items) new h in
-    ap (λ (s : Table). entry_of s q) (sym (completed-ok t new top (length (top_text b) + 1) read.0 read.2)) ∙ put-apart t top.name (made_of top.block read.0) q apart
+    let stated = then-ok (stated_by t b top) (λ items. and_then (with_value top (missing_column b) items) (λ given. replaced t top given)) new h in
+    let valued = then-ok (with_value top (missing_column b) stated.0) (λ given. replaced t top given) new stated.2 in
+    ap (λ (s : Table). entry_of s q) (sym (limited-ok (length t) (with_entry t top.name (made_of top.block valued.0)) new valued.2)) ∙ put-apart t top.name (made_of top.block valued.0) q apart
 
 opened-apart : (t start : Table) (top : Top) (o : Option Entry) → opened_from t top o ≡ Ok start → (q : List ℕ) → same_name top.name q ≡ false → entry_of start q ≡ entry_of t q
 opened-apart t start top None h q apart = let same : begun t top ≡ start = cc in ap (λ (s : Table). entry_of s q) (sym same) ∙ put-apart t top.name (made_of top.block []) q apart

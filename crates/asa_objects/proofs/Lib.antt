@@ -1,9 +1,8 @@
 pub mod LineLaws
+pub mod SizeLaws
 pub mod StateLaws
 pub mod FitLaws
 pub mod DefineLaws
-pub mod UserLaws
 pub mod StackLaws
 pub mod KeptLaws
-pub mod SumLaws
 pub mod FrameLaws

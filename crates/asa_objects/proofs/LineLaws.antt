@@ -1,13 +1,13 @@
 -- A line that is refused ends the block.
 use Rattle.std.proofs.Common.{◌≡◌, ℕ, ◌+◌, ◌<◌, suc, List, ◌∷◌, length, drop, get_or, Err, sym, ap, subst, ◌∙◌}
 use Rattle.std.proofs.Math.Seq.{drop-cons}
-use Rattle.asa_text.specs.declared.lining.Line.{Line}
-use Rattle.asa_members.specs.declared.blocking.BlockKind.{BlockKind}
-use Rattle.asa_members.specs.declared.stating.Item.{Item}
-use Rattle.asa_values.specs.declared.faults.ObjectFault.{ObjectFault}
-use Rattle.asa_values.specs.declared.faults.ObjectFault.TheVariants as fault
-use Rattle.asa_values.specs.Tables.{Table}
-use Rattle.asa_values.specs.Defining.{Takes, after_line, after_lines, and_then}
+use Rattle.asa_text.specs.declared.lines.Line.{Line}
+use Rattle.asa_objects_lines.specs.declared.kinds.BlockKind.{BlockKind}
+use Rattle.asa_objects_lines.specs.declared.statement.Item.{Item}
+use Rattle.asa_objects_values.specs.declared.faults.ObjectFault.{ObjectFault}
+use Rattle.asa_objects_values.specs.declared.faults.ObjectFault.TheVariants as fault
+use Rattle.asa_objects_values.specs.Tables.{Table}
+use Rattle.asa_objects_values.specs.Definition.{Takes, after_line, after_lines, and_then}
 
 ends : (t : Table) (name : List ℕ) (kind : BlockKind) (n : ℕ) (items : List Item) (l : Line) (ls : List Line) (f : ObjectFault) (new : List Item)
     → Takes (Err f) new (after_line t name kind n items l) → Takes (Err f) new (after_lines t name kind n items (l ∷ ls))
@@ -20,7 +20,7 @@ ends t name kind n items l ls (fault.Bad i c) new takes = ap (λ s. and_then s (
 ends t name kind n items l ls (fault.Unsupported i c) new takes = ap (λ s. and_then s (λ next. after_lines t name kind (n + 1) next ls)) takes
 ends t name kind n items l ls (fault.Cycle i) new takes = ap (λ s. and_then s (λ next. after_lines t name kind (n + 1) next ls)) takes
 ends t name kind n items l ls (fault.NoSuchMember i) new takes = ap (λ s. and_then s (λ next. after_lines t name kind (n + 1) next ls)) takes
-ends t name kind n items l ls (fault.NotBuilt i) new takes = ap (λ s. and_then s (λ next. after_lines t name kind (n + 1) next ls)) takes
+ends t name kind n items l ls (fault.NoValue i) new takes = ap (λ s. and_then s (λ next. after_lines t name kind (n + 1) next ls)) takes
 
 pub refused-at : (t : Table) (name : List ℕ) (kind : BlockKind) (members items : List Item) (lines : List Line) (i : ℕ) (l : Line) (f : ObjectFault) (new : List Item)
     → after_lines t name kind (i + 2) items (drop i lines) ≡ after_lines t name kind 2 members lines → i < length lines → l ≡ get_or lines i l

@@ -1,16 +1,16 @@
 -- Lists of members that are still to be listed.
 use Rattle.std.proofs.Common.{◌≡◌, ℕ, ◌+◌, ◌<◌, ◌≤◌, suc, List, [], ◌∷◌, ◌++◌, length, Option, Some, None, Result, Ok, Err, OnOk, refl, sym, ap, ◌∙◌, arith, length-append}
-use Rattle.asa_members.specs.declared.blocking.GroupKind.{GroupKind}
-use Rattle.asa_members.specs.declared.stating.Item.{Item}
-use Rattle.asa_members.specs.declared.stating.Item.TheVariants as item
-use Rattle.asa_members.specs.Items.{item_services}
-use Rattle.asa_objects.specs.declared.expanding.Rest.{Rest}
-use Rattle.asa_values.specs.Spreads.{of_name}
-use Rattle.asa_values.specs.Tables.{Entry, Table, entry_of, items_in, items_of, named, own_members, members_of, services_of_name, group_at, group_of}
-use Rattle.asa_ranks.specs.Ranks.{IsSound, Ranks, Uses, members, services, amount_of, label_of}
+use Rattle.asa_objects_lines.specs.declared.kinds.GroupKind.{GroupKind}
+use Rattle.asa_objects_lines.specs.declared.statement.Item.{Item}
+use Rattle.asa_objects_lines.specs.declared.statement.Item.TheVariants as item
+use Rattle.asa_objects_lines.specs.Items.{item_services}
+use Rattle.asa_objects.specs.declared.expansion.Rest.{Rest}
+use Rattle.asa_objects_values.specs.Spreads.{of_name}
+use Rattle.asa_objects_values.specs.Tables.{Entry, Table, entry_of, items_in, items_of, named, own_members, members_of, services_of_name, group_at, group_of}
+use Rattle.asa_objects_table.specs.Ranks.{IsSound, Ranks, Uses, members, services, amount_of, label_of}
 use Rattle.asa_objects.specs.Stacks.{IsWaiting, given_by, unwound, marks, visits, cost_of, cost}
-use Rattle.asa_values.proofs.SpreadLaws.{spread-items, total-append}
-use Rattle.asa_ranks.proofs.RankLaws.{labelled, number, number-falls, number-few, kept-members, kept-services}
+use Rattle.asa_objects_values.proofs.SpreadLaws.{spread-items, total-append}
+use Rattle.asa_objects_table.proofs.RankLaws.{labelled, number, number-falls, number-few, kept-members, kept-services}
 
 append-nil : {X : Type 0} (xs : List X) → xs ++ [] ≡ xs
 append-nil [] = refl
@@ -42,16 +42,6 @@ module _ (t : Table) (ranks : Ranks) (uses : Uses) (stamp : ℕ) (sound : IsSoun
   pub visits-given : (q : List ℕ) → visits t q ≡ given_by marks (visits t) (items_of t q)
   visits-given q = let ok = labelled t ranks uses stamp sound in
       spread-items named (items_of t) (λ _ i. marks i) (number t (label_of ranks) ok) (number-falls t (label_of ranks) ok) (suc (length t)) q (number-few t (label_of ranks) ok q)
-
-  no-length : {X : Type 0} (xs : List X) → length xs ≡ 0 → xs ≡ []
-  no-length [] h = refl
-  no-length (x ∷ xs) h = absurd (omega arith)
-
-  pub no-members : (q : List ℕ) → amount_of members ranks q ≡ 0 → members_of t q ≡ []
-  no-members q h = no-length (members_of t q) (sym (kept-members t ranks uses stamp sound q) ∙ h)
-
-  pub no-services : (q : List ℕ) → amount_of services ranks q ≡ 0 → services_of_name t q ≡ []
-  no-services q h = no-length (services_of_name t q) (sym (kept-services t ranks uses stamp sound q) ∙ h)
 
   -- the members of a name are waited for
   pub wait-listed : {X : Type 0} (own : GroupKind → Item → List X) (names : List ℕ → List X) (old new : List Rest) (q : List ℕ) (entry : Entry) → names q ≡ given_by (own (group_at (entry_of t q))) names (items_of t q)
@@ -133,7 +123,7 @@ module _ (t : Table) (x : Item) (xs items : List Item) (cut : items ≡ x ∷ xs
   pub cost-own : (before after : ℕ) → after ≡ before + cost_of t xs → after < cost_of t items + before
   cost-own before after mid = let whole = cost-cut in let some = some-marks x in omega arith
 
--- what follows from what holds where a call succeeds
-pub on-ok : {A E : Type 0} (P Q : Type 0) (r : Result A E) → OnOk r P → (P → Q) → OnOk r Q
-on-ok P Q (Ok x) p f = f p
-on-ok P Q (Err e) p f = tt
+-- a list without length
+pub none-left : {X : Type 0} (xs : List X) → length xs ≡ 0 → xs ≡ []
+none-left [] h = refl
+none-left (x ∷ xs) h = absurd (omega arith)

@@ -3,23 +3,23 @@ use Rattle.std.proofs.Common.{◌≡◌, ℕ, Bool, true, false, if◌then◌els
 use Rattle.std.specs.List.{list_any}
 use Rattle.asa_text.specs.Words.{Left}
 use Rattle.asa_text.specs.Readers.{Read, ◌>>=◌, next_is, after_one, column_at, keyword_at, end_at}
-use Rattle.asa_base.specs.Naming.{name_at}
-use Rattle.asa_base.specs.Reading.{protocol_at, icmp_type_at, named_at, kind_or_fault, same_kind}
-use Rattle.asa_base.specs.Knowing.{Known}
-use Rattle.asa_base.specs.declared.knowing.Kind.{Kind}
-use Rattle.asa_base.specs.declared.knowing.Kind.TheVariants as kind
-use Rattle.asa_base.specs.declared.ranging.Member.{Member}
-use Rattle.asa_members.specs.declared.blocking.BlockKind.{BlockKind}
-use Rattle.asa_members.specs.declared.blocking.BlockKind.TheVariants as block
-use Rattle.asa_members.specs.declared.blocking.GroupKind.{GroupKind}
-use Rattle.asa_members.specs.declared.blocking.GroupKind.TheVariants as group
-use Rattle.asa_members.specs.declared.stating.Item.{Item}
-use Rattle.asa_members.specs.declared.stating.Statement.{Statement}
-use Rattle.asa_members.specs.declared.stating.Statement.TheVariants as says
-use Rattle.asa_members.specs.Blocks.{kind_of_group}
-use Rattle.asa_members.specs.Objects.{network_value, host_at, subnet_at, range_at, network_object_no, other_network_line, network_object_line, service_value_at, service_line, service_object_line}
-use Rattle.asa_members.specs.Groups.{object_item_at, group_address_at, network_item_at, group_service_at, service_item_at, member_ports_at, port_item_at, protocol_item_at, icmp_item_at, item_at, fits_in, group_item_at, member_word, own_item_at, any_item_at, member_at, begins_member, added_at, removed_at, after_no, group_line, statement_at}
-use Rattle.asa_values.specs.Tables.{named}
+use Rattle.asa_base.specs.Names.{name_at}
+use Rattle.asa_base.specs.Readers.{protocol_at, icmp_type_at, named_at, kind_or_fault, same_kind}
+use Rattle.asa_base.specs.Kinds.{Known}
+use Rattle.asa_base.specs.declared.kinds.Kind.{Kind}
+use Rattle.asa_base.specs.declared.kinds.Kind.TheVariants as kind
+use Rattle.asa_base.specs.declared.range.Member.{Member}
+use Rattle.asa_objects_lines.specs.declared.kinds.BlockKind.{BlockKind}
+use Rattle.asa_objects_lines.specs.declared.kinds.BlockKind.TheVariants as block
+use Rattle.asa_objects_lines.specs.declared.kinds.GroupKind.{GroupKind}
+use Rattle.asa_objects_lines.specs.declared.kinds.GroupKind.TheVariants as group
+use Rattle.asa_objects_lines.specs.declared.statement.Item.{Item}
+use Rattle.asa_objects_lines.specs.declared.statement.Statement.{Statement}
+use Rattle.asa_objects_lines.specs.declared.statement.Statement.TheVariants as says
+use Rattle.asa_objects_lines.specs.Blocks.{kind_of_group}
+use Rattle.asa_objects_lines.specs.Objects.{network_value, host_at, subnet_at, range_at, network_object_no, other_network_line, network_object_line, service_value_at, service_line, service_object_line}
+use Rattle.asa_objects_lines.specs.Groups.{object_item_at, group_address_at, network_item_at, group_service_at, service_item_at, member_ports_at, port_item_at, protocol_item_at, icmp_item_at, item_at, fits_in, group_item_at, member_word, own_item_at, any_item_at, member_at, begins_member, added_at, removed_at, after_no, group_line, statement_at}
+use Rattle.asa_objects_values.specs.Tables.{named}
 
 -- what was read passes
 abbrev pub Passes : {X : Type 0} → (X → Type 0) → Read X → Type 0

@@ -1,6 +1,4 @@
-pub mod Summing
-pub mod Effects
-pub mod Drafting
-pub mod Expanding
+pub mod BlockChanges
+pub mod Expansions
 pub mod Stacks
-pub mod Keeping
+pub mod Frames

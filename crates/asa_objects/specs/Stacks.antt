@@ -1,14 +1,14 @@
 -- Members that are still to be listed, of which the last list comes first.
 use Rattle.std.specs.Prelude.{◌≡◌, ℕ, suc, List, [], ◌∷◌, ◌++◌, length, Option, Some, None}
 use Rattle.std.specs.List.{flat_map}
-use Rattle.asa_base.specs.declared.ranging.Member.{Member}
-use Rattle.asa_base.specs.declared.boxing.Service.{Service}
-use Rattle.asa_members.specs.declared.blocking.GroupKind.{GroupKind}
-use Rattle.asa_members.specs.Items.{item_services}
-use Rattle.asa_members.specs.declared.stating.Item.{Item}
-use Rattle.asa_objects.specs.declared.expanding.Rest.{Rest}
-use Rattle.asa_values.specs.Spreads.{of_name, spread, total}
-use Rattle.asa_values.specs.Tables.{Entry, Table, group_of, items_of, named, own_members, members_of, services_of_name}
+use Rattle.asa_base.specs.declared.range.Member.{Member}
+use Rattle.asa_base.specs.declared.boxes.Service.{Service}
+use Rattle.asa_objects_lines.specs.declared.kinds.GroupKind.{GroupKind}
+use Rattle.asa_objects_lines.specs.Items.{item_services}
+use Rattle.asa_objects_lines.specs.declared.statement.Item.{Item}
+use Rattle.asa_objects.specs.declared.expansion.Rest.{Rest}
+use Rattle.asa_objects_values.specs.Spreads.{of_name, spread, total}
+use Rattle.asa_objects_values.specs.Tables.{Entry, Table, group_of, items_of, named, own_members, members_of, services_of_name}
 
 -- what members give, each name in its place
 abbrev pub given_by : {X : Type 0} → (Item → List X) → (List ℕ → List X) → List Item → List X

@@ -7,12 +7,12 @@ use asa_text::{Block, Items, Shared, cut_blocks, push_bytes, push_number};
 use std::ops::Range;
 use std::process::Abort;
 
-fn name(rt: &impl Abort, text: &[u8]) -> Name {
+pub(crate) fn name(rt: &impl Abort, text: &[u8]) -> Name {
     Name::new(text).expect(rt, "a name")
 }
 
 /// The blocks of a text.
-fn blocks_of(rt: &(impl Abort + AllocGlobal), text: &[u8]) -> Items<Block>
+pub(crate) fn blocks_of(rt: &(impl Abort + AllocGlobal), text: &[u8]) -> Items<Block>
     requires { length text.now < 2 ^ 31 }
 {
     let blocks = cut_blocks(rt.alloc(), text, 1).expect(rt, "memory for the blocks");
@@ -58,7 +58,7 @@ pub(crate) fn table(rt: &(impl Abort + AllocGlobal), text: &[u8]) -> Objects
 }
 
 /// The table of a text that a loop wrote.
-pub(crate) fn long_table(rt: &(impl Abort + AllocGlobal), text: &[u8]) -> Objects {
+fn long_table(rt: &(impl Abort + AllocGlobal), text: &[u8]) -> Objects {
     assert!(rt; text.len() <= 8_000_000);
     table(rt, text)
 }
@@ -68,11 +68,7 @@ fn copy_of(rt: &impl Abort, objects: &Objects) -> Objects {
 }
 
 /// The names that reach what the first block of a text defines.
-fn reaching(
-    rt: &(impl Abort + AllocGlobal),
-    objects: &mut Objects,
-    text: &[u8],
-) -> Shared<Items<Name>>
+fn reaching(rt: &(impl Abort + AllocGlobal), objects: &Objects, text: &[u8]) -> Shared<Items<Name>>
     requires { length text.now < 2 ^ 31 }
 {
     let blocks = blocks_of(rt, text);
@@ -85,21 +81,6 @@ fn reaching(
 fn assert_has_name(rt: &impl Abort, names: &[Name], text: &[u8]) {
     let name = name(rt, text);
     assert!(rt; names.contains(&name));
-}
-
-/// Asserts that so many names reach what the first block of a text defines, of which this is one.
-pub(crate) fn assert_reached(
-    rt: &(impl Abort + AllocGlobal),
-    objects: &mut Objects,
-    text: &[u8],
-    count: usize,
-    name: &[u8],
-)
-    requires { length text.now < 2 ^ 31 }
-{
-    let names = reaching(rt, objects, text);
-    assert_eq!(rt; names.get().len(), count);
-    assert_has_name(rt, names.get().as_slice(), name);
 }
 
 /// Asserts how many members a name has.
@@ -120,13 +101,13 @@ fn assert_services(rt: &impl Abort, objects: &Objects, text: &[u8], count: u64) 
     assert_eq!(rt; objects.service_count(&name), count);
 }
 
-fn assert_kind(rt: &impl Abort, objects: &Objects, text: &[u8], kind: Option<Kind>) {
+pub(crate) fn assert_kind(rt: &impl Abort, objects: &Objects, text: &[u8], kind: Option<Kind>) {
     let name = name(rt, text);
     assert_eq!(rt; objects.kind_of(&name), kind);
 }
 
 /// Asserts that the first group that names a name is this one.
-pub(crate) fn assert_user(rt: &impl Abort, objects: &Objects, text: &[u8], user: &[u8]) {
+fn assert_user(rt: &impl Abort, objects: &Objects, text: &[u8], user: &[u8]) {
     let name = name(rt, text);
     let first = objects
         .group_using(&name)
@@ -136,14 +117,14 @@ pub(crate) fn assert_user(rt: &impl Abort, objects: &Objects, text: &[u8], user:
 }
 
 /// Asserts that no group names a name.
-pub(crate) fn assert_free(rt: &impl Abort, objects: &Objects, text: &[u8]) {
+fn assert_free(rt: &impl Abort, objects: &Objects, text: &[u8]) {
     let name = name(rt, text);
     assert!(rt; objects.group_using(&name).is_none());
     assert!(rt; !objects.is_used(&name));
 }
 
 /// Takes out a name that no group names, and answers whether it was there.
-pub(crate) fn removed(rt: &impl Abort, objects: &mut Objects, text: &[u8]) -> bool {
+fn removed(rt: &impl Abort, objects: &mut Objects, text: &[u8]) -> bool {
     let name = name(rt, text);
     assert!(rt; objects.group_using(&name).is_none());
     objects.remove(&name)
@@ -214,16 +195,16 @@ pub(crate) fn assert_hosts(
     assert!(rt; members.as_slice() == hosts.as_slice());
 }
 
-pub(crate) fn push(rt: &impl Abort, text: &mut Vec<u8>, bytes: &[u8]) {
+fn push(rt: &impl Abort, text: &mut Vec<u8>, bytes: &[u8]) {
     push_bytes(text, bytes).expect(rt, "memory for the text");
 }
 
-pub(crate) fn push_digits(rt: &impl Abort, text: &mut Vec<u8>, number: u32) {
+fn push_digits(rt: &impl Abort, text: &mut Vec<u8>, number: u32) {
     push_number(text, u64::from(number)).expect(rt, "memory for the text");
 }
 
 /// Each number of a range, written between two pieces.
-pub(crate) fn push_repeated(
+fn push_repeated(
     rt: &impl Abort,
     text: &mut Vec<u8>,
     numbers: Range<u32>,
@@ -327,30 +308,22 @@ fn a_group_that_names_one_that_is_not_there_or_itself_is_refused(rt: HostRuntime
 
 #[test]
 fn groups_of_groups_reach_what_a_block_defines(rt: HostRuntime) {
-    let mut objects = table(
+    let objects = table(
         &rt,
         b"object-group network A\nobject-group network B\n group-object A\nobject-group network C\n network-object host 10.0.0.1\n group-object B\nobject-group network D\n network-object host 10.0.0.2\n",
     );
-    let names = reaching(
-        &rt,
-        &mut objects,
-        b"object-group network A\n group-object D\n",
-    );
+    let names = reaching(&rt, &objects, b"object-group network A\n group-object D\n");
     assert_eq!(rt; names.get().len(), 3);
     assert_has_name(&rt, names.get().as_slice(), b"A");
     assert_has_name(&rt, names.get().as_slice(), b"B");
     assert_has_name(&rt, names.get().as_slice(), b"C");
-    let top = reaching(&rt, &mut objects, b"object-group network C\n");
+    let top = reaching(&rt, &objects, b"object-group network C\n");
     assert_eq!(rt; top.get().len(), 1);
     assert_has_name(&rt, top.get().as_slice(), b"C");
-    let new = reaching(
-        &rt,
-        &mut objects,
-        b"object-group network E\n group-object A\n",
-    );
+    let new = reaching(&rt, &objects, b"object-group network E\n group-object A\n");
     assert_eq!(rt; new.get().len(), 1);
     assert_has_name(&rt, new.get().as_slice(), b"E");
-    let unread = reaching(&rt, &mut objects, b"object-group network\n");
+    let unread = reaching(&rt, &objects, b"object-group network\n");
     assert!(rt; unread.get().as_slice().is_empty());
 }
 
@@ -406,10 +379,7 @@ fn services_of_every_kind_are_told(rt: HostRuntime) {
 /// Asserts that a group G with two members stays as it is where blocks are refused.
 fn assert_refusals(rt: &(impl Abort + AllocGlobal), objects: &mut Objects) {
     let missing = ObjectFault::NoSuchMember { line: 3 };
-    let empty = ObjectFault::Bad {
-        line: 1,
-        column: 17,
-    };
+    let empty = ObjectFault::NoValue { column: 17 };
     assert_refused(
         rt,
         objects,
@@ -456,46 +426,6 @@ fn blocks_extend_replace_and_take_out(rt: HostRuntime) {
     );
     assert_free(&rt, &objects, b"A");
     assert_user(&rt, &copy, b"A", b"B");
-}
-
-/// Asserts that a block is refused at a line that isn't built.
-fn assert_not_built(rt: &(impl Abort + AllocGlobal), objects: &mut Objects, line: u32, text: &[u8])
-    requires { length text.now < 2 ^ 31 }
-{
-    assert_refused(rt, objects, ObjectFault::NotBuilt { line }, text);
-}
-
-#[test]
-fn a_nat_line_is_refused_in_the_order_of_lines(rt: HostRuntime) {
-    let after_another = ObjectFault::Bad { line: 2, column: 7 };
-    let mut objects = table(&rt, b"object network A\n host 10.0.0.1\n");
-    assert_not_built(
-        &rt,
-        &mut objects,
-        3,
-        b"object network A\n host 10.0.0.2\n nat (any,any) static 10.0.0.9\n",
-    );
-    assert_not_built(&rt, &mut objects, 2, b"object network A\n no nat x\n");
-    assert_refused(
-        &rt,
-        &mut objects,
-        after_another,
-        b"object network A\n host x\n nat dynamic interface\n",
-    );
-    assert_not_built(
-        &rt,
-        &mut objects,
-        2,
-        b"object network A\n nat dynamic interface\n host x\n",
-    );
-    assert_not_built(
-        &rt,
-        &mut objects,
-        3,
-        b"object network B\n description x\n nat dynamic interface\n",
-    );
-    assert_kind(&rt, &objects, b"B", None);
-    assert_hosts(&rt, &objects, b"A", &[1]);
 }
 
 #[test]

@@ -3,7 +3,7 @@ use Rattle.std.proofs.Common.{◌≡◌, ℕ, ◌+◌, ◌-◌, ◌*◌, ◌/◌
 use Rattle.std.specs.Prelude.{filter}
 use Rattle.std.specs.List.{All}
 use Rattle.asa_base.specs.Networks.{Network}
-use Rattle.asa_base.specs.declared.flowing.Packet.{Packet}
+use Rattle.asa_base.specs.declared.flow.Packet.{Packet}
 use Rattle.asa_trie.specs.Bits.{height, home_of, is_here, is_low, is_high, one_half, IsWithin}
 use Rattle.asa_trie.specs.Tries.{Later, IsNested, total}
 use Rattle.asa_trie.proofs.BlockLaws.{parts_length}
@@ -13,8 +13,8 @@ use Rattle.asa_pair_trie.specs.declared.entries.Side.TheVariants.{Source, Dest}
 use Rattle.asa_pair_trie.specs.declared.arenas.OuterNode.{OuterNode}
 use Rattle.asa_pair_trie.specs.declared.arenas.InnerNode.{InnerNode}
 use Rattle.asa_pair_trie.specs.declared.arenas.Slot.{Slot}
-use Rattle.asa_pair_trie.specs.Finding.{seeing, seen, inner_links, inner_value, outer_links, outer_value, found, entries_in, IsRising, IsPairTrie}
-use Rattle.asa_pair_trie.specs.Building.{prefix_by, worth, ChainGrown, InnerGrown, OuterGrown}
+use Rattle.asa_pair_trie.specs.Lookup.{seeing, seen, inner_links, inner_value, outer_links, outer_value, found, entries_in, IsRising, IsPairTrie}
+use Rattle.asa_pair_trie.specs.Growth.{prefix_by, worth, ChainGrown, InnerGrown, OuterGrown}
 use Rattle.asa_pair_trie.proofs.RankLaws.{seeing_laws, total_is, first_permutation, covering_permutation}
 use Rattle.asa_pair_trie.proofs.HeldLaws.{added_none, added_count, added_parts}
 

@@ -8,8 +8,8 @@ use Rattle.asa_base.specs.Networks.{Network}
 use Rattle.asa_trie.specs.Bits.{bit_below, is_here, is_low, is_high}
 use Rattle.asa_pair_trie.specs.declared.entries.Entry.{Entry}
 use Rattle.asa_pair_trie.specs.declared.arenas.Slot.{Slot}
-use Rattle.asa_pair_trie.specs.Finding.{entries_in}
-use Rattle.asa_pair_trie.specs.Building.{Added}
+use Rattle.asa_pair_trie.specs.Lookup.{entries_in}
+use Rattle.asa_pair_trie.specs.Growth.{Added}
 
 entries_length : (slots : List Slot) → length (entries_in slots) ≡ length slots
 entries_length slots = length-map slots (λ s. s.entry)

@@ -3,7 +3,7 @@ use Rattle.std.proofs.Common.{◌≡◌, ℕ, suc, ◌+◌, ◌-◌, ◌<◌, Li
 use Rattle.asa_trie.specs.Tries.{Links, child, covering, walk}
 use Rattle.asa_trie.proofs.TrieLaws.{walk_done, walk_end, walk_next}
 use Rattle.asa_pair_trie.specs.Pairs.{lesser}
-use Rattle.asa_pair_trie.specs.Finding.{Seen, both, seeing}
+use Rattle.asa_pair_trie.specs.Lookup.{Seen, both, seeing}
 use Rattle.asa_pair_trie.proofs.RankLaws.{lesser_assoc, lesser_none}
 
 -- a walk that ends adds nothing

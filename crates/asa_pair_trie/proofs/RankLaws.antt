@@ -3,15 +3,15 @@ use Rattle.std.proofs.Common.{◌≡◌, ℕ, ◌+◌, ◌<◌, Bool, true, fals
 use Rattle.std.specs.Prelude.{filter}
 use Rattle.std.specs.List.Sorted.{IsPermutation}
 use Rattle.asa_base.specs.Boxes.{service_holds}
-use Rattle.asa_base.specs.declared.flowing.Packet.{Packet}
+use Rattle.asa_base.specs.declared.flow.Packet.{Packet}
 use Rattle.asa_trie.specs.Bits.{covers_number}
 use Rattle.asa_trie.specs.Tries.{Laws, total}
 use Rattle.asa_trie.proofs.SumLaws.{sum_permutation}
 use Rattle.asa_pair_trie.specs.declared.entries.Entry.{Entry}
 use Rattle.asa_pair_trie.specs.declared.entries.Side.TheVariants.{Source}
 use Rattle.asa_pair_trie.specs.Pairs.{covers_both, holds, lesser, least_rank, first_of}
-use Rattle.asa_pair_trie.specs.Finding.{Seen, both, seeing}
-use Rattle.asa_pair_trie.specs.Building.{prefix_by, worth}
+use Rattle.asa_pair_trie.specs.Lookup.{Seen, both, seeing}
+use Rattle.asa_pair_trie.specs.Growth.{prefix_by, worth}
 
 pub lesser_assoc : (a b c : Option ℕ) → lesser (lesser a b) c ≡ lesser a (lesser b c)
 lesser_assoc None b c = refl

@@ -4,7 +4,7 @@ use Rattle.std.specs.Prelude.{IfSome}
 use Rattle.std.proofs.lemmas.Bool.{true≢false, ltb-true, ltb-false}
 use Rattle.asa_base.specs.Boxes.{service_holds}
 use Rattle.std.specs.List.Sorted.{IsPermutation}
-use Rattle.asa_base.specs.declared.flowing.Packet.{Packet}
+use Rattle.asa_base.specs.declared.flow.Packet.{Packet}
 use Rattle.asa_trie.proofs.SumLaws.{sum_permutation}
 use Rattle.asa_pair_trie.proofs.RankLaws.{seeing_laws}
 use Rattle.asa_pair_trie.proofs.HeldLaws.{added_ordered}
@@ -12,9 +12,9 @@ use Rattle.asa_trie.specs.Tries.{node_at, Later, sum_over}
 use Rattle.asa_trie.proofs.TrieLaws.{node_before, node_cases, node_last, later_push, later_next, same_some, some_none}
 use Rattle.asa_pair_trie.specs.declared.entries.Entry.{Entry}
 use Rattle.asa_pair_trie.specs.declared.arenas.Slot.{Slot}
-use Rattle.asa_pair_trie.specs.Finding.{both, seeing, seen, chain, IsRisingAt, IsRising, precedes, ticks}
+use Rattle.asa_pair_trie.specs.Lookup.{both, seeing, seen, chain, IsRisingAt, IsRising, precedes, ticks}
 use Rattle.asa_pair_trie.specs.Pairs.{lesser}
-use Rattle.asa_pair_trie.specs.Building.{Chained, ChainGrown}
+use Rattle.asa_pair_trie.specs.Growth.{Chained, ChainGrown}
 
 pub chain_end : (slots : List Slot) (p : Packet) (fuel : ℕ) → chain slots p fuel 0 ≡ seeing.unit
 unfolding chain

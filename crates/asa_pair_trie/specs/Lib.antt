@@ -1,3 +1,3 @@
-pub mod Building
-pub mod Finding
+pub mod Growth
+pub mod Lookup
 pub mod Pairs

@@ -2,7 +2,7 @@
 use Rattle.std.specs.Prelude.{ℕ, min, Bool, ◌&&◌, List, [], ◌∷◌, filter, Option, Some, None}
 use Rattle.asa_base.specs.Networks.{covers}
 use Rattle.asa_base.specs.Boxes.{service_holds}
-use Rattle.asa_base.specs.declared.flowing.Packet.{Packet}
+use Rattle.asa_base.specs.declared.flow.Packet.{Packet}
 use Rattle.asa_pair_trie.specs.declared.entries.Entry.{Entry}
 
 -- both prefixes cover the packet's addresses

@@ -3,11 +3,11 @@ ghost use Rattle.std.specs.Prelude.{◌≡◌, ◌+◌, ◌≤◌, length, filte
 ghost use Rattle.std.specs.List.Sorted.{IsPermutation};
 ghost use Rattle.asa_pair_trie.specs.Pairs.{covers_both, first_of};
 
-use crate::building::grow_outer;
-use crate::chaining::Chains;
-use crate::dividing::copied;
+use crate::chains::Chains;
 use crate::entries::Entry;
-use crate::looking::first_of_outer;
+use crate::growth::grow_outer;
+use crate::halves::copied;
+use crate::lookup::first_of_outer;
 use asa_base::{Counter, Packet, Prefix, Sealed};
 use std::alloc::{AllocError, Global};
 use std::marker::Model;
@@ -55,7 +55,7 @@ pub struct PairTrie {
 impl Model for PairTrie {
     ghost use Rattle.std.specs.Prelude.{List};
     ghost use Rattle.asa_pair_trie.specs.declared.entries.Entry.{Entry};
-    ghost use Rattle.asa_pair_trie.specs.Finding.{entries_in, IsPairTrie};
+    ghost use Rattle.asa_pair_trie.specs.Lookup.{entries_in, IsPairTrie};
 
     ghost Value = { List Entry };
 

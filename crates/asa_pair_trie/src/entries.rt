@@ -1,6 +1,6 @@
 //! Entries.
 ghost use Rattle.std.specs.Prelude.{◌≡◌};
-ghost use Rattle.asa_pair_trie.specs.Building.{prefix_by};
+ghost use Rattle.asa_pair_trie.specs.Growth.{prefix_by};
 ghost use Rattle.asa_pair_trie.specs.Pairs as spec;
 
 use asa_base::{Packet, Prefix, Service};

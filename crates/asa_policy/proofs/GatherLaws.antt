@@ -8,7 +8,7 @@ use Rattle.std.proofs.lemmas.Bool.{and_parts}
 use Rattle.std.proofs.lemmas.Bool.Decides.{nat_tests}
 use Rattle.asa_access.specs.Lists as access
 use Rattle.asa_config.specs.Settings.{same_side}
-use Rattle.asa_policy.specs.Gathering.{is_this, is_bound_at, binds, side_if, sides_among, sides_of}
+use Rattle.asa_policy.specs.AccessLists.{is_this, is_bound_at, binds, side_if, sides_among, sides_of}
 
 abbrev Bound : Type 0
 Bound = (ℕ × Bool) × List ℕ

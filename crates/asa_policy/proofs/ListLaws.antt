@@ -6,14 +6,14 @@ use Rattle.std.specs.Option.{option_map}
 use Rattle.std.specs.Str.{bytes_eq}
 use Rattle.std.proofs.lemmas.Bool.{or_left, or_right}
 use Rattle.std.proofs.lemmas.Iterator.Adapters.{position_from-zero}
-use Rattle.asa_base.specs.declared.flowing.Packet.{Packet}
-use Rattle.asa_ifaces.specs.declared.holding.Iface.{Iface}
-use Rattle.asa_acl.specs.Lists.{AccessLines}
-use Rattle.asa_access.specs.declared.listing.AccessList.{AccessList}
+use Rattle.asa_base.specs.declared.flow.Packet.{Packet}
+use Rattle.asa_ifaces.specs.declared.iface.Iface.{Iface}
+use Rattle.asa_acl.specs.Acls.{AccessLines}
+use Rattle.asa_access.specs.declared.list.AccessList.{AccessList}
 use Rattle.asa_access.specs.Rules.{inbound_by, outbound_by}
 use Rattle.asa_access.specs.Lists as access
 use Rattle.asa_config.specs.Settings.{Settings, has_name, list_bound, list_on, global_list, bound_to, same_side}
-use Rattle.asa_policy.specs.Gathering.{bound_among, is_bound, is_bound_at, is_on_side, is_this}
+use Rattle.asa_policy.specs.AccessLists.{bound_among, is_bound, is_bound_at, is_on_side, is_this}
 use Rattle.asa_policy.specs.Access.{level_among, level_at, levels_of, match_in, covering_under, inbound, outbound, inbound_covering, outbound_covering}
 
 -- the first place that passes, among values that stand from a place on

@@ -3,10 +3,10 @@ use Rattle.std.proofs.Common.{◌≡◌, ℕ, zero, suc, ◌+◌, ◌≤◌, Boo
 use Rattle.std.proofs.Math.Seq.{drop-cons}
 use Rattle.std.proofs.lemmas.List.Sums.{sum_by-cons}
 use Rattle.std.proofs.lemmas.Option.{slice_get_within, slice_get-get_or}
-use Rattle.asa_acl.specs.Lists.{AccessLines}
-use Rattle.asa_boxes.specs.Meanings.{Meanings}
-use Rattle.asa_boxes.specs.Pairs.{list_pairs}
-use Rattle.asa_lists.specs.Knowing.{pairs_of_lists}
+use Rattle.asa_acl.specs.Acls.{AccessLines}
+use Rattle.asa_acl_boxes.specs.Meanings.{Meanings}
+use Rattle.asa_acl_boxes.specs.Pairs.{list_pairs}
+use Rattle.asa_acl_table.specs.Names.{pairs_of_lists}
 
 one_of : (f : AccessLines → ℕ) (ls : List AccessLines) (n : ℕ) (l : AccessLines) → slice_get ls n ≡ Some l → f l ≤ sum_by f ls
 one_of f [] n l e = absurd (cc)

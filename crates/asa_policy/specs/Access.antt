@@ -1,13 +1,13 @@
 -- What the lists of a configuration and its levels say of a packet: by the first box of a list that holds it.
 use Rattle.std.specs.Prelude.{ℕ, ◌+◌, Bool, nat_lt, List, map, Option, Some, None, slice_get, unwrap_or}
 use Rattle.std.specs.Option.{option_map}
-use Rattle.asa_base.specs.declared.flowing.Packet.{Packet}
-use Rattle.asa_entries.specs.Matching.{boxes_covering, first_box}
-use Rattle.asa_ifaces.specs.declared.holding.Iface.{Iface}
-use Rattle.asa_acl.specs.Lists.{AccessLines}
+use Rattle.asa_base.specs.declared.flow.Packet.{Packet}
+use Rattle.asa_access_entries.specs.Matches.{boxes_covering, first_box}
+use Rattle.asa_ifaces.specs.declared.iface.Iface.{Iface}
+use Rattle.asa_acl.specs.Acls.{AccessLines}
 use Rattle.asa_config.specs.Settings.{Settings, list_on, global_list}
-use Rattle.asa_config.specs.Knowing.{boxes_under}
-use Rattle.asa_access.specs.declared.verdicts.AccessVerdict.{AccessVerdict}
+use Rattle.asa_config.specs.Names.{boxes_under}
+use Rattle.asa_access.specs.declared.verdict.AccessVerdict.{AccessVerdict}
 use Rattle.asa_access.specs.Rules.{Match, inbound_by, outbound_by}
 
 -- the level of an interface, where there is one; the configuration keeps that of one without a name as 0

@@ -1,9 +1,9 @@
 -- What a compiled policy keeps of the configuration that it was compiled from.
 use Rattle.std.specs.Prelude.{◌≡◌, ℕ, ◌<◌, List}
-use Rattle.asa_base.specs.declared.flowing.Packet.{Packet}
+use Rattle.asa_base.specs.declared.flow.Packet.{Packet}
 use Rattle.asa_config.specs.Settings.{Settings}
-use Rattle.asa_routes.specs.declared.offering.Candidate.{Candidate}
-use Rattle.asa_routes.specs.Routing.{candidates}
+use Rattle.asa_ifaces_routes.specs.declared.candidates.Candidate.{Candidate}
+use Rattle.asa_ifaces_routes.specs.Candidates.{candidates}
 use Rattle.asa_access.specs.Compiled.{CompiledLists, inbound_in, outbound_in, covering_inbound, covering_outbound}
 use Rattle.asa_policy.specs.Access.{inbound, outbound, inbound_covering, outbound_covering}
 

@@ -1,4 +1,4 @@
 pub mod Access
-pub mod Gathering
-pub mod Deciding
+pub mod AccessLists
+pub mod Decisions
 pub mod Compiled

@@ -1,9 +1,9 @@
 -- The texts of refusals, and the lines that tell of them.
 use Rattle.std.specs.Prelude.{ℕ, List, ◌++◌, codes, decimal}
-use Rattle.asa_classes.specs.declared.refusing.EditFault.{EditFault}
-use Rattle.asa_classes.specs.declared.refusing.EditFault.TheVariants as fault
-use Rattle.asa_session.specs.declared.scripting.SessionKind.{SessionKind}
-use Rattle.asa_session.specs.declared.scripting.SessionKind.TheVariants as kind
+use Rattle.asa_config_edit.specs.declared.fault.EditFault.{EditFault}
+use Rattle.asa_config_edit.specs.declared.fault.EditFault.TheVariants as fault
+use Rattle.asa_session.specs.declared.session.SessionKind.{SessionKind}
+use Rattle.asa_session.specs.declared.session.SessionKind.TheVariants as kind
 
 -- why a block is refused: its word, then what the word speaks of
 unfoldable pub fault_text : EditFault → List ℕ

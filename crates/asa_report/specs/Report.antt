@@ -1,8 +1,8 @@
 -- The text of the report, line by line.
 use Rattle.std.specs.Prelude.{ℕ, ◌+◌, List, [], ◌∷◌, ◌++◌, length, codes, decimal}
 use Rattle.std.specs.List.{flat_map}
-use Rattle.asa_ifaces.specs.declared.holding.Iface.{Iface}
-use Rattle.asa_session.specs.declared.scripting.Session.{Session}
+use Rattle.asa_ifaces.specs.declared.iface.Iface.{Iface}
+use Rattle.asa_session.specs.declared.session.Session.{Session}
 use Rattle.asa_core.specs.declared.history.Entry.{Entry}
 use Rattle.asa_core.specs.declared.history.Entry.TheVariants as entry
 use Rattle.asa_core.specs.declared.history.Answer.{Answer}

@@ -1,11 +1,11 @@
 -- The words of the report for what was decided.
 use Rattle.std.specs.Prelude.{ℕ, List, [], ◌++◌, codes, decimal, slice_get, Option, Some, None}
 use Rattle.asa_text.specs.Printed.{address_port}
-use Rattle.asa_base.specs.declared.flowing.Header.{Header}
-use Rattle.asa_base.specs.declared.flowing.NatPlace.{NatPlace}
-use Rattle.asa_base.specs.declared.flowing.AccessBy.{AccessBy}
-use Rattle.asa_base.specs.declared.flowing.AccessBy.TheVariants as by
-use Rattle.asa_ifaces.specs.declared.holding.Iface.{Iface}
+use Rattle.asa_base.specs.declared.flow.Header.{Header}
+use Rattle.asa_base.specs.declared.flow.NatPlace.{NatPlace}
+use Rattle.asa_base.specs.declared.flow.AccessBy.{AccessBy}
+use Rattle.asa_base.specs.declared.flow.AccessBy.TheVariants as by
+use Rattle.asa_ifaces.specs.declared.iface.Iface.{Iface}
 use Rattle.asa_flow.specs.declared.outcomes.Route.{Route}
 use Rattle.asa_flow.specs.declared.outcomes.Route.TheVariants as route
 use Rattle.asa_flow.specs.declared.outcomes.SourceMap.{SourceMap}

@@ -3,8 +3,8 @@ use Rattle.std.proofs.Common.{◌≡◌, ℕ, Bool, true, false, cond, ◌||◌,
 use Rattle.std.proofs.lemmas.Bool.Decides.{nat_tests}
 use Rattle.std.proofs.lemmas.List.Folds.{list_any-append}
 use Rattle.std.specs.List.{list_any}
-use Rattle.asa_base.specs.declared.flowing.Packet.{Packet}
-use Rattle.asa_session.specs.declared.collecting.Ends.{Ends}
+use Rattle.asa_base.specs.declared.flow.Packet.{Packet}
+use Rattle.asa_session.specs.declared.flows.Ends.{Ends}
 use Rattle.asa_session.specs.Scripts.{same_ends}
 use Rattle.asa_session.specs.Directions.{same_direction, ends_of, turned, has_direction, Finds}
 

@@ -1,4 +1,4 @@
 pub mod EndsLaws
-pub mod StartingLaws
+pub mod StartupLaws
 pub mod ScriptLaws
 pub mod SessionLaws

@@ -4,21 +4,21 @@ use Rattle.std.proofs.lemmas.Bool.Decides.{nat_tests}
 use Rattle.std.proofs.lemmas.List.Elements.{All-push}
 use Rattle.std.proofs.lemmas.List.Quantifiers.{position-Some}
 use Rattle.std.proofs.lemmas.Option.{slice_get-get_or}
-use Rattle.asa_text.specs.declared.lining.Line.{Line}
-use Rattle.asa_text.specs.declared.reading.LineFault.{LineFault}
+use Rattle.asa_text.specs.declared.lines.Line.{Line}
+use Rattle.asa_text.specs.declared.readers.LineFault.{LineFault}
 use Rattle.asa_text.specs.Lines.{is_kept, is_indented}
 use Rattle.asa_text.specs.Words.{Left, line_left}
 use Rattle.asa_text.specs.Readers.{Read, ◌>>=◌, word_at, next_is, keyword_at, number_at, address_at, end_at}
-use Rattle.asa_base.specs.Naming.{name_at}
-use Rattle.asa_base.specs.declared.flowing.Packet.{Packet}
-use Rattle.asa_ifaces.specs.declared.holding.Iface.{Iface}
-use Rattle.asa_base.specs.Reading.{interface_at}
+use Rattle.asa_base.specs.Names.{name_at}
+use Rattle.asa_base.specs.declared.flow.Packet.{Packet}
+use Rattle.asa_ifaces.specs.declared.iface.Iface.{Iface}
+use Rattle.asa_base.specs.Readers.{interface_at}
 use Rattle.asa_ifaces.specs.Interfaces.{has_name, interface_of, is_named}
 use Rattle.asa_config.specs.Settings.{Settings}
-use Rattle.asa_session.specs.declared.scripting.SessionError.{SessionError}
-use Rattle.asa_session.specs.Judging.{and_then, unbuilt_script}
+use Rattle.asa_session.specs.declared.session.SessionError.{SessionError}
+use Rattle.asa_session.specs.Refusals.{and_then, unbuilt_script}
 use Rattle.asa_session.specs.Scripts.{packet_line, lane_line, built_at, has_new_ends, with_packet, command_line, script_line, script_packets}
-use Rattle.asa_session.proofs.StartingLaws.{and_then_ok, passed_test}
+use Rattle.asa_session.proofs.StartupLaws.{and_then_ok, passed_test}
 
 -- what was read before the rest
 bind_ok : {X Y : Type 0} (r : Read X) (f : X × Left → Read Y) (y : Y × Left) → (r >>= f) ≡ Ok y → (x : X × Left) × (r ≡ Ok x) × (f x ≡ Ok y)

@@ -3,23 +3,23 @@ use Rattle.std.proofs.Common.{◌≡◌, ℕ, suc, true, Bool, ◌+◌, ◌≤�
 use Rattle.std.specs.List.{fold, range_with_len}
 use Rattle.std.proofs.lemmas.List.{append-nil}
 use Rattle.std.proofs.lemmas.List.Elements.{All-cons, All-head, All-tail}
-use Rattle.asa_text.specs.declared.lining.Line.{Line}
-use Rattle.asa_text.specs.declared.grouping.Block.{Block}
+use Rattle.asa_text.specs.declared.lines.Line.{Line}
+use Rattle.asa_text.specs.declared.blocks.Block.{Block}
 use Rattle.asa_text.specs.Blocks.{blocks_of}
 use Rattle.asa_text.specs.Lines.{before_end, after_end}
-use Rattle.asa_base.specs.declared.flowing.Packet.{Packet}
+use Rattle.asa_base.specs.declared.flow.Packet.{Packet}
 use Rattle.asa_config.specs.Settings.{Settings, nothing}
-use Rattle.asa_config.specs.Steps.{after_block, config_of}
-use Rattle.asa_session.specs.declared.scripting.Command.{Command}
-use Rattle.asa_session.specs.declared.scripting.Command.TheVariants as command
-use Rattle.asa_session.specs.declared.scripting.Session.{Session}
-use Rattle.asa_session.specs.declared.scripting.SessionError.{SessionError}
-use Rattle.asa_session.specs.Judging.{Judged, and_then}
-use Rattle.asa_session.specs.Starting.{kept_of, passed_count, startup_config}
+use Rattle.asa_config.specs.Steps.{startup_edit, after_edit, config_of}
+use Rattle.asa_session.specs.declared.session.Command.{Command}
+use Rattle.asa_session.specs.declared.session.Command.TheVariants as command
+use Rattle.asa_session.specs.declared.session.Session.{Session}
+use Rattle.asa_session.specs.declared.session.SessionError.{SessionError}
+use Rattle.asa_session.specs.Refusals.{Judged, and_then}
+use Rattle.asa_session.specs.Startup.{kept_of, passed_count, startup_config}
 use Rattle.asa_session.specs.Scripts.{script_packets}
 use Rattle.asa_session.specs.Sessions.{commands_from, session_with, with_packets, with_script, startup_blocks, session_of_lines}
 use Rattle.asa_session.specs.Readiness.{IsReady, enters_named, commands_of}
-use Rattle.asa_session.proofs.StartingLaws.{and_then_ok, startup_ok}
+use Rattle.asa_session.proofs.StartupLaws.{and_then_ok, startup_ok}
 use Rattle.asa_session.proofs.ScriptLaws.{AreCarried, script_carried}
 
 length-commands_from : (i : ℕ) (ps : List Packet) → length (commands_from i ps) ≡ length ps
@@ -42,7 +42,7 @@ commands_of_session : (bs : List Block) (n : ℕ) (c : Settings) (ps : List Pack
 commands_of_session bs n c [] = refl
 commands_of_session bs n c (p ∷ ps) = append-nil (commands_from 1 (p ∷ ps))
 
-ready_with : (bs : List Block) (n : ℕ) (c : Settings) (ps : List Packet) → fold after_block nothing bs ≡ c → AreCarried c ps → IsReady (session_with bs n c ps)
+ready_with : (bs : List Block) (n : ℕ) (c : Settings) (ps : List Packet) → fold after_edit nothing (map startup_edit bs) ≡ c → AreCarried c ps → IsReady (session_with bs n c ps)
 unfolding config_of
 ready_with bs n c ps configured carried =
     let asked = commands_of_session bs n c ps in

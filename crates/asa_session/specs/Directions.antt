@@ -1,8 +1,8 @@
 -- The two ends of a packet in its direction, and the look-up of those of earlier packets.
 use Rattle.std.specs.Prelude.{◌≡◌, Bool, ◌&&◌, List}
 use Rattle.std.specs.List.{list_any}
-use Rattle.asa_base.specs.declared.flowing.Packet.{Packet}
-use Rattle.asa_session.specs.declared.collecting.Ends.{Ends}
+use Rattle.asa_base.specs.declared.flow.Packet.{Packet}
+use Rattle.asa_session.specs.declared.flows.Ends.{Ends}
 use Rattle.asa_session.specs.Scripts.{same_end}
 
 -- the two go between the same ends in the same direction

@@ -1,5 +1,5 @@
-pub mod Judging
-pub mod Starting
+pub mod Refusals
+pub mod Startup
 pub mod Scripts
 pub mod Directions
 pub mod Sessions

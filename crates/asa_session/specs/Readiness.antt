@@ -3,10 +3,10 @@ use Rattle.std.specs.Prelude.{◌≡◌, ℕ, ◌≤◌, Bool, List, map, length
 use Rattle.std.specs.List.{flat_map, range_with_len}
 use Rattle.asa_ifaces.specs.Interfaces.{is_named}
 use Rattle.asa_config.specs.Settings.{Settings}
-use Rattle.asa_config.specs.Steps.{config_of}
-use Rattle.asa_session.specs.declared.scripting.Command.{Command}
-use Rattle.asa_session.specs.declared.scripting.Command.TheVariants as command
-use Rattle.asa_session.specs.declared.scripting.Session.{Session}
+use Rattle.asa_config.specs.Steps.{startup_edit, config_of}
+use Rattle.asa_session.specs.declared.session.Command.{Command}
+use Rattle.asa_session.specs.declared.session.Command.TheVariants as command
+use Rattle.asa_session.specs.declared.session.Session.{Session}
 
 -- the packet of the command comes in on a named interface
 abbrev pub enters_named : Settings → Command → Bool
@@ -18,7 +18,7 @@ commands_of s = flat_map (λ phase. phase.commands) s.phases
 
 pub record IsReady (s : Session) : Type 0 where
   -- the configuration is that of the startup blocks
-  pub configured : s.config ≡ config_of s.startup
+  pub configured : s.config ≡ config_of (map startup_edit s.startup)
   -- each packet comes in on a named interface
   pub named : All (λ asked. IsTrue (enters_named s.config asked.2)) (commands_of s)
   -- each command is lane 1's, and their indices count from 1

@@ -2,17 +2,17 @@
 -- where one of these readers reads it whole.
 use Rattle.std.specs.Prelude.{ℕ, ◌+◌, Bool, not, ◌&&◌, ◌||◌, ◌==◌, List, [], ◌∷◌, ◌++◌, length, codes, Result, Ok, Err, if◌then◌else◌}
 use Rattle.std.specs.List.{list_any}
-use Rattle.asa_text.specs.declared.lining.Line.{Line}
-use Rattle.asa_text.specs.declared.numbering.Addr.{Addr}
+use Rattle.asa_text.specs.declared.lines.Line.{Line}
+use Rattle.asa_text.specs.declared.numbers.Addr.{Addr}
 use Rattle.asa_text.specs.Lines.{is_kept, is_indented}
 use Rattle.asa_text.specs.Words.{Left, line_left}
 use Rattle.asa_text.specs.Readers.{Read, ◌>>=◌, next_is, keyword_at, number_at, address_at, end_at}
-use Rattle.asa_base.specs.declared.flowing.Packet.{Packet}
-use Rattle.asa_base.specs.Reading.{interface_at}
+use Rattle.asa_base.specs.declared.flow.Packet.{Packet}
+use Rattle.asa_base.specs.Readers.{interface_at}
 use Rattle.asa_ifaces.specs.Interfaces.{interface_of}
 use Rattle.asa_config.specs.Settings.{Settings}
-use Rattle.asa_session.specs.declared.scripting.SessionError.{SessionError}
-use Rattle.asa_session.specs.Judging.{and_then, unbuilt_script}
+use Rattle.asa_session.specs.declared.session.SessionError.{SessionError}
+use Rattle.asa_session.specs.Refusals.{and_then, unbuilt_script}
 
 -- `packet I tcp A SPORT A DPORT S`
 unfoldable pub packet_line : Settings → Left → Read Packet

@@ -1,22 +1,22 @@
 -- A session: the startup blocks before the first line that is exactly `: end`, then the script.
 use Rattle.std.specs.Prelude.{ℕ, ◌+◌, List, [], ◌∷◌, length, Option, Some, None, Result, Ok, Err}
-use Rattle.asa_text.specs.declared.lining.Line.{Line}
-use Rattle.asa_text.specs.declared.grouping.Block.{Block}
-use Rattle.asa_text.specs.declared.grouping.BlockFault.{BlockFault}
+use Rattle.asa_text.specs.declared.lines.Line.{Line}
+use Rattle.asa_text.specs.declared.blocks.Block.{Block}
+use Rattle.asa_text.specs.declared.blocks.BlockFault.{BlockFault}
 use Rattle.asa_text.specs.Lines.{lines_from, before_end, after_end}
 use Rattle.asa_text.specs.Blocks.{blocks_of}
-use Rattle.asa_base.specs.declared.flowing.Packet.{Packet}
+use Rattle.asa_base.specs.declared.flow.Packet.{Packet}
 use Rattle.asa_config.specs.Settings.{Settings, nothing}
-use Rattle.asa_session.specs.declared.scripting.Command.{Command}
-use Rattle.asa_session.specs.declared.scripting.Command.TheVariants as command
-use Rattle.asa_session.specs.declared.scripting.PhaseEnd.TheVariants.{Input}
-use Rattle.asa_session.specs.declared.scripting.PhaseText.{PhaseText}
-use Rattle.asa_session.specs.declared.scripting.Session.{Session}
-use Rattle.asa_session.specs.declared.scripting.SessionKind.TheVariants.{NoEnd}
-use Rattle.asa_session.specs.declared.scripting.SessionError.{SessionError}
-use Rattle.asa_session.specs.declared.scripting.SessionError.TheVariants.{At}
-use Rattle.asa_session.specs.Judging.{and_then, out_of_form}
-use Rattle.asa_session.specs.Starting.{kept_of, passed_count, startup_config}
+use Rattle.asa_session.specs.declared.session.Command.{Command}
+use Rattle.asa_session.specs.declared.session.Command.TheVariants as command
+use Rattle.asa_session.specs.declared.session.PhaseEnd.TheVariants.{Input}
+use Rattle.asa_session.specs.declared.session.PhaseText.{PhaseText}
+use Rattle.asa_session.specs.declared.session.Session.{Session}
+use Rattle.asa_session.specs.declared.session.SessionKind.TheVariants.{NoEnd}
+use Rattle.asa_session.specs.declared.session.SessionError.{SessionError}
+use Rattle.asa_session.specs.declared.session.SessionError.TheVariants.{At}
+use Rattle.asa_session.specs.Refusals.{and_then, out_of_form}
+use Rattle.asa_session.specs.Startup.{kept_of, passed_count, startup_config}
 use Rattle.asa_session.specs.Scripts.{script_packets}
 
 -- the packets as the commands of lane 1, of which the first has the index i

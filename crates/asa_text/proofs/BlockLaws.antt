@@ -1,9 +1,9 @@
 -- The blocks that the builder has when no line comes any more.
 use Rattle.std.proofs.Common.{◌≡◌, ◌==◌, Bool, true, false, cond, List, [], ◌∷◌, ◌++◌, length, None, Ok, Result, refl, append-nil}
-use Rattle.asa_text.specs.declared.grouping.Block.{Block}
-use Rattle.asa_text.specs.declared.grouping.BlockFault.{BlockFault}
-use Rattle.asa_text.specs.Blocks.{Grouped, grouped}
-use Rattle.asa_text.specs.Building.{Building, finished, with_open}
+use Rattle.asa_text.specs.declared.blocks.Block.{Block}
+use Rattle.asa_text.specs.declared.blocks.BlockFault.{BlockFault}
+use Rattle.asa_text.specs.Blocks.{grouped}
+use Rattle.asa_text.specs.Builder.{Building, finished, with_open}
 
 same_choice : (t : Bool) (xs ys : List Block) → cond {A = Result (List Block) BlockFault} t (Ok xs) (Ok ys) ≡ Ok (cond t xs ys)
 same_choice true xs ys = refl

@@ -2,4 +2,5 @@ pub mod BlockLaws
 pub mod LineLaws
 pub mod WordLaws
 pub mod NumberLaws
-pub mod Appending
+pub mod RunLaws
+pub mod AppendLaws

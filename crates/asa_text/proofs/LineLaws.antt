@@ -1,12 +1,11 @@
 -- The lines of a text, one cut after another.
-use Rattle.std.proofs.Common.{◌≡◌, false, ◌==◌, ℕ, ◌+◌, ◌<◌, ◌≤◌, List, [], ◌∷◌, length, take, drop, refl, sym, ap, ◌∙◌, arith, rules}
-use Rattle.std.specs.List.{slice_split, position_or_len, before_first, after_first, count_by}
+use Rattle.std.proofs.Common.{◌≡◌, false, ◌==◌, ℕ, ◌+◌, ◌<◌, ◌≤◌, List, [], ◌∷◌, length, take, drop, refl, ap, ◌∙◌, arith}
+use Rattle.std.specs.List.{slice_split, position_or_len, before_first, after_first}
 use Rattle.std.specs.Str.Lines.{lines, lines_of_parts, strip_carriage_return}
 use Rattle.std.proofs.lemmas.List.Splits.{slice_split_first, slice_split_none, length-slice_split}
 use Rattle.std.proofs.lemmas.List.Sums.{fails_before_first}
 use Rattle.std.proofs.lemmas.List.Elements.{All-from_get_or}
 use Rattle.std.proofs.lemmas.Bool.Decides.{nat_tests}
-use Rattle.asa_text.specs.declared.lining.Line.{Line}
 use Rattle.asa_text.specs.Lines.{lines_from, numbered, trimmed}
 
 parts_more : (x : List ℕ) (parts : List (List ℕ)) → 0 < length parts → lines_of_parts (x ∷ parts) ≡ strip_carriage_return x ∷ lines_of_parts parts

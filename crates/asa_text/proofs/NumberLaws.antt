@@ -1,9 +1,7 @@
 -- The number that digits write, one digit after another.
-use Rattle.std.proofs.Common.{◌≡◌, ◌==◌, ℕ, ◌+◌, ◌-◌, ◌*◌, Bool, zero, suc, cond, Some, ap, ◌<◌, ◌≤◌, true, false, List, [], ◌∷◌, length, take, drop, get_or, refl, arith}
-use Rattle.std.specs.List.{slice_split, position_or_len, find, range_with_len, list_all}
-use Rattle.std.proofs.lemmas.List.Splits.{slice_split_first, slice_split_none, length-slice_split}
-use Rattle.std.proofs.lemmas.List.Sums.{fails_before_first}
-use Rattle.std.proofs.lemmas.List.Elements.{All-from_get_or}
+use Rattle.std.proofs.Common.{◌≡◌, ◌==◌, ℕ, ◌+◌, ◌-◌, ◌*◌, Bool, zero, suc, cond, Some, ◌<◌, ◌≤◌, true, false, List, [], ◌∷◌, length, take, get_or, refl, arith}
+use Rattle.std.specs.List.{find, range_with_len, list_all}
+use Rattle.std.proofs.lemmas.List.Splits.{length-slice_split}
 use Rattle.asa_text.specs.Numbers.{is_digit, runs}
 use Rattle.std.specs.Char.{digit_value}
 use Rattle.std.specs.Str.Parse.{digits_value}
@@ -22,16 +20,6 @@ value_le ds i = digits_value-take-le 10 ds i (omega arith)
 pub empty_digits : (word : List ℕ) → length word ≡ 0 → list_all is_digit word ≡ true
 empty_digits [] h = refl
 empty_digits (b ∷ bs) h = absurd (omega arith)
-
--- a word with a dot: its first run, and the runs of what follows
-pub runs_first : (word : List ℕ) → position_or_len (λ b. b == 46) word < length word
-    → runs word ≡ take (position_or_len (λ b. b == 46) word) word ∷ runs (drop (position_or_len (λ b. b == 46) word + 1) word)
-runs_first word h = slice_split_first (λ b. b == 46) word 0 h
-
--- a word without a dot is its only run
-pub runs_last : (word : List ℕ) → length word ≤ position_or_len (λ b. b == 46) word → runs word ≡ word ∷ []
-runs_last word h =
-    slice_split_none (λ b. b == 46) word (All-from_get_or (λ b. (b == 46) ≡ false) word 0 (λ i l. fails_before_first (λ b. b == 46) word i 0 (omega arith)))
 
 -- each word has a run
 pub runs_some : (word : List ℕ) → 0 < length (runs word)

@@ -1,9 +1,9 @@
 -- Blocks: each top-level line with the indented lines that follow it. Empty lines and comments between don't matter.
-use Rattle.std.specs.Prelude.{ℕ, Bool, false, not, ◌&&◌, List, [], ◌∷◌, Result, Ok, Err, if◌then◌else◌}
-use Rattle.std.specs.List.{filter, list_all}
-use Rattle.asa_text.specs.declared.lining.Line.{Line}
-use Rattle.asa_text.specs.declared.grouping.Block.{Block}
-use Rattle.asa_text.specs.declared.grouping.BlockFault.{BlockFault}
+use Rattle.std.specs.Prelude.{ℕ, List, [], ◌∷◌, drop, Result, Ok, Err, if◌then◌else◌}
+use Rattle.std.specs.List.{filter}
+use Rattle.asa_text.specs.declared.lines.Line.{Line}
+use Rattle.asa_text.specs.declared.blocks.Block.{Block}
+use Rattle.asa_text.specs.declared.blocks.BlockFault.{BlockFault}
 use Rattle.asa_text.specs.Lines.{is_kept, is_indented}
 
 -- lines cut into blocks, and the indented lines that stand before any of them
@@ -27,6 +27,18 @@ blocks_or_fault g = when_early g.early g.blocks
     when_early : List Line → List Block → Result (List Block) BlockFault
     when_early [] bs = Ok bs
     when_early (l ∷ _) bs = Err (record { line = l.number })
+
+-- the text of a block's top-level line
+abbrev pub top_text : Block → List ℕ
+top_text b = first_text b.lines
+  where
+    first_text : List Line → List ℕ
+    first_text [] = []
+    first_text (top ∷ _) = top.text
+
+-- the indented lines of a block
+abbrev pub inner_lines : Block → List Line
+inner_lines b = drop 1 b.lines
 
 -- the blocks of lines
 abbrev pub blocks_of : List Line → Result (List Block) BlockFault

@@ -4,5 +4,5 @@ pub mod Words
 pub mod Numbers
 pub mod Readers
 pub mod Printed
-pub mod Building
+pub mod Builder
 pub mod Runs

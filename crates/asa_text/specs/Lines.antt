@@ -4,7 +4,7 @@ use Rattle.std.specs.Prelude.{ℕ, ◌+◌, ◌-◌, Bool, false, not, ◌&&◌,
 use Rattle.std.specs.List.{suffix_len, list_all}
 use Rattle.std.specs.Str.{bytes_eq}
 use Rattle.std.specs.Str.Lines.{lines}
-use Rattle.asa_text.specs.declared.lining.Line.{Line}
+use Rattle.asa_text.specs.declared.lines.Line.{Line}
 
 -- a space or a tab
 abbrev pub is_blank : ℕ → Bool
@@ -28,9 +28,9 @@ pub record LinesLeft : Type 0 where
   pub number : ℕ
   pub lines : List Line
 
--- nothing stands in the line
+-- nothing but blanks stands in the line
 abbrev pub is_empty_line : Line → Bool
-is_empty_line l = length l.text == 0
+is_empty_line l = list_all is_blank l.text
 
 -- the first byte is `:` or `!`
 abbrev pub is_comment : Line → Bool

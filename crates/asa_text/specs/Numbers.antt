@@ -1,10 +1,11 @@
 -- What a word means as a number, an address or a mask, and why it doesn't mean one.
-use Rattle.std.specs.Prelude.{ℕ, ◌+◌, ◌-◌, ◌*◌, ◌^◌, Bool, not, ◌&&◌, ◌==◌, nat_lt, nat_le, List, [], ◌∷◌, length, Option, Some, None, Result, Ok, Err, if◌then◌else◌}
-use Rattle.std.specs.List.{list_all, slice_split, fold, find, range_with_len}
+use Rattle.std.specs.Prelude.{ℕ, ◌+◌, ◌-◌, ◌*◌, ◌^◌, Bool, not, ◌&&◌, ◌==◌, nat_le, List, length, Option, Some, None, Result, Ok, Err, if◌then◌else◌}
+use Rattle.std.specs.List.{list_all, fold, find, range_with_len}
 use Rattle.std.specs.Str.Parse.{digits_value}
-use Rattle.asa_text.specs.declared.numbering.Addr.{Addr}
-use Rattle.asa_text.specs.declared.numbering.WordFault.{WordFault}
-use Rattle.asa_text.specs.declared.numbering.WordFault.TheVariants.{Empty, NotANumber, OutOfRange}
+use Rattle.asa_text.specs.declared.numbers.Addr.{Addr}
+use Rattle.asa_text.specs.declared.numbers.WordFault.{WordFault}
+use Rattle.asa_text.specs.declared.numbers.WordFault.TheVariants.{Empty, NotANumber, OutOfRange}
+use Rattle.asa_text.specs.Runs.{runs_between}
 
 -- an ASCII digit
 abbrev pub is_digit : ℕ → Bool
@@ -23,7 +24,7 @@ number_of word least greatest =
 
 -- the runs of a word between its dots
 abbrev pub runs : List ℕ → List (List ℕ)
-runs word = slice_split (λ b. b == 46) word
+runs word = runs_between 46 word
 
 -- a run of digits that isn't empty
 abbrev pub is_number : List ℕ → Bool

@@ -1,6 +1,6 @@
 -- How values are printed.
-use Rattle.std.specs.Prelude.{ℕ, ◌/◌, ◌%◌, ◌^◌, List, [], ◌∷◌, ◌++◌, decimal, codes}
-use Rattle.asa_text.specs.declared.numbering.Addr.{Addr}
+use Rattle.std.specs.Prelude.{ℕ, ◌/◌, ◌%◌, ◌^◌, List, ◌++◌, decimal, codes}
+use Rattle.asa_text.specs.declared.numbers.Addr.{Addr}
 
 -- an address as four decimal numbers joined by dots
 unfoldable pub dotted : Addr → List ℕ

@@ -1,11 +1,11 @@
 -- Reading a line word by word. A reader gives what it read and what is left of the line, or a fault with its column.
-use Rattle.std.specs.Prelude.{◌≡◌, ℕ, Bool, ◌==◌, List, [], ◌∷◌, Option, Some, None, Result, Ok, Err, if◌then◌else◌}
+use Rattle.std.specs.Prelude.{◌≡◌, ℕ, Bool, true, false, ◌==◌, List, [], ◌∷◌, Option, Some, None, Result, Ok, Err, if◌then◌else◌}
 use Rattle.std.specs.List.{list_any}
 use Rattle.std.specs.Str.{bytes_eq}
-use Rattle.asa_text.specs.declared.numbering.Addr.{Addr}
-use Rattle.asa_text.specs.declared.numbering.WordFault.{WordFault}
-use Rattle.asa_text.specs.declared.reading.LineFault.{LineFault}
-use Rattle.asa_text.specs.declared.reading.LineFault.TheVariants.{Bad, Unsupported}
+use Rattle.asa_text.specs.declared.numbers.Addr.{Addr}
+use Rattle.asa_text.specs.declared.numbers.WordFault.{WordFault}
+use Rattle.asa_text.specs.declared.readers.LineFault.{LineFault}
+use Rattle.asa_text.specs.declared.readers.LineFault.TheVariants.{Bad, Unsupported}
 use Rattle.asa_text.specs.Words.{Spelled, Left}
 use Rattle.asa_text.specs.Numbers.{number_of, address_of, mask_of}
 
@@ -56,12 +56,25 @@ column_at left = of_words left.words
     of_words [] = left.end
     of_words (w ∷ _) = w.column
 
+-- what is left after the next word, where that was taken
+abbrev pub after_if : Bool → Left → Left
+after_if true left = after_one left
+after_if false left = left
+
+-- the next word has none of the forms of its place, or is missing
+abbrev pub bad_next : Left → LineFault
+bad_next left = Bad (column_at left)
+
+-- a form begins with the next word that the device has and this project leaves out
+abbrev pub unsupported_next : Left → LineFault
+unsupported_next left = Unsupported (column_at left)
+
 -- the next word is this one
 abbrev pub next_is : List ℕ → Left → Bool
 next_is text left = of_words left.words
   where
     of_words : List Spelled → Bool
-    of_words [] = Bool.false
+    of_words [] = false
     of_words (w ∷ _) = bytes_eq w.word text
 
 -- a value of a word, or Bad at its column
@@ -82,10 +95,9 @@ unfoldable pub address_at : Left → Read Addr
 address_at left = word_at left >>= λ (w, rest).
     if list_any (λ b. b == 58) w.word then Err (Unsupported w.column) else value_or_bad w rest (address_of w.word)
 
--- a mask, as its number of ones; a word with a `:` is Unsupported
+-- a mask, as its number of ones
 unfoldable pub mask_at : Left → Read ℕ
-mask_at left = word_at left >>= λ (w, rest).
-    if list_any (λ b. b == 58) w.word then Err (Unsupported w.column) else value_or_bad w rest (mask_of w.word)
+mask_at left = word_at left >>= λ (w, rest). value_or_bad w rest (mask_of w.word)
 
 -- the end of the line; a word too many is Bad at its column
 unfoldable pub end_at : Left → Read (Unit {0})

@@ -2,26 +2,28 @@
 //! readers of a line, and printing.
 #![tactic(auto)]
 
-mod building;
-mod grouping;
-mod lining;
-mod listing;
-mod numbering;
-mod printing;
-mod reading;
-mod scanning;
-mod sharing;
-mod wording;
+mod blanks;
+mod blocks;
+mod builder;
+mod items;
+mod lines;
+mod numbers;
+mod printed;
+mod readers;
+mod runs;
+mod shared;
+mod words;
 
-pub use grouping::{Block, BlockFault, BlockLines, StartupText, cut_blocks, cut_startup};
-pub use lining::{Line, LineView, Lines, Text};
-pub use listing::Items;
-pub use numbering::{Addr, WordFault, is_digit, mask_bits, parse_addr, parse_mask, parse_number};
-pub use printing::{push_address, push_address_port, push_bytes, push_number};
-pub use reading::{LineFault, address, end_of_line, keyword, mask, number};
-pub use scanning::trimmed;
-pub use sharing::Shared;
-pub use wording::{Word, Words};
+pub use blanks::trimmed;
+pub use blocks::{Block, BlockFault, BlockLines, StartupText, cut_blocks, cut_startup};
+pub use items::Items;
+pub use lines::{Line, LineView, Lines, Text};
+pub use numbers::{Addr, WordFault, is_digit, mask_bits, parse_addr, parse_mask, parse_number};
+pub use printed::{push_address, push_address_port, push_bytes, push_number};
+pub use readers::{LineFault, address, end_of_line, keyword, mask, number};
+pub use runs::cut_run;
+pub use shared::Shared;
+pub use words::{Word, Words};
 
 #[cfg(test)]
 mod tests;

@@ -2,8 +2,8 @@
 //! allocates can succeed.
 use crate::{
     Addr, Block, BlockFault, Items, Line, LineFault, Lines, Text, WordFault, Words, address,
-    cut_blocks, cut_startup, end_of_line, keyword, mask, mask_bits, number, parse_addr, parse_mask,
-    parse_number, push_address, push_address_port, push_bytes, push_number,
+    cut_blocks, cut_run, cut_startup, end_of_line, keyword, mask, mask_bits, number, parse_addr,
+    parse_mask, parse_number, push_address, push_address_port, push_bytes, push_number,
 };
 use std::alloc::Global;
 use std::test::Fail;
@@ -161,8 +161,35 @@ fn readers_name_the_column_of_a_fault(rt: HostRuntime) {
         (b" 10.0.0.300", LineFault::Bad { column: 2 }),
     ] {
         assert_eq!(rt; address(&mut Words::of(text)), Err(wanted));
-        assert_eq!(rt; mask(&mut Words::of(text)), Err(wanted));
+        assert_eq!(rt;
+            mask(&mut Words::of(text)),
+            Err(LineFault::Bad { column: 2 })
+        );
     }
+}
+
+#[test]
+fn a_word_is_taken_where_it_comes_next(rt: HostRuntime) {
+    let mut words = Words::of(b"ip  any");
+    assert!(rt; !words.takes(b"any"));
+    assert!(rt; words.takes(b"ip"));
+    assert_eq!(rt; words.bad(), LineFault::Bad { column: 5 });
+    assert_eq!(rt; words.unsupported(), LineFault::Unsupported { column: 5 });
+    assert!(rt; words.takes(b"any"));
+    assert_eq!(rt; words.bad(), LineFault::Bad { column: 8 });
+}
+
+#[test]
+fn a_run_ends_before_a_stop(rt: HostRuntime) {
+    assert_eq!(rt;
+        cut_run(b"1:02", b':'),
+        (b"1".as_slice(), Some(b"02".as_slice()))
+    );
+    assert_eq!(rt;
+        cut_run(b"1:", b':'),
+        (b"1".as_slice(), Some(b"".as_slice()))
+    );
+    assert_eq!(rt; cut_run(b"1.2", b':'), (b"1.2".as_slice(), None));
 }
 
 /// The numbers of the lines of each block.
@@ -248,6 +275,7 @@ fn a_block_is_made_of_lines_of_its_form(rt: HostRuntime) -> Result<(), Fail> {
         ([b"a", b"b"], false),
         ([b"a", b""], false),
         ([b"!", b" b"], false),
+        ([b"a", b" \t"], false),
     ] {
         let mut lines = Vec::new(rt.alloc());
         for text in texts {
@@ -255,7 +283,12 @@ fn a_block_is_made_of_lines_of_its_form(rt: HostRuntime) -> Result<(), Fail> {
             let text = Text::from_slice(rt.alloc(), text)?;
             lines.push(Line { number: 1, text })?;
         }
-        assert_eq!(rt; Block::new(lines).is_some(), wanted, "of {texts:?}");
+        let block = Block::new(lines);
+        assert_eq!(rt; block.is_some(), wanted, "of {texts:?}");
+        if let Some(block) = block {
+            assert!(rt; block.top_words().takes(b"a"));
+            assert_eq!(rt; block.inner_lines().len(), 1);
+        }
     }
     assert!(rt; Block::new(Vec::new(rt.alloc())).is_none());
     Ok(())

@@ -1,6 +1,6 @@
 use crate::deed::Deed;
-use crate::meeting::{Meeting, meet};
-use crate::opening::open_live;
+use crate::meetings::{Meeting, meet};
+use crate::start::open_live;
 use crate::toys::Adder;
 use std::process::Abort;
 use std::test::*;

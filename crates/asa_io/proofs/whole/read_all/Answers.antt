@@ -1,7 +1,7 @@
 -- What the last call says of the bytes that it found is said of the bytes at the start.
 use Rattle.std.proofs.Common.{◌++◌, take, arith, ◌∙◌}
 use Rattle.std.proofs.lemmas.Grind.{common_steps}
-use Rattle.asa_io.proofs.Parts.{consumes_more, exceeds_more}
+use Rattle.asa_io.proofs.PartLaws.{consumes_more, exceeds_more}
 use Rattle.asa_io.proofs.whole.read_all.Goals as goal
 
 pub returns-in_err-n-clause-too_long : goal.returns-in_err-n-clause-too_long

@@ -2,7 +2,7 @@
 use Rattle.std.proofs.Common.{arith}
 use Rattle.std.proofs.lemmas.Grind.{common_steps}
 use Rattle.std.proofs.lemmas.List.{take_rest}
-use Rattle.asa_io.proofs.Parts.{appends_more}
+use Rattle.asa_io.proofs.PartLaws.{appends_more}
 use Rattle.asa_io.proofs.whole.write_all.Goals as goal
 
 pub loop-written-preserved : goal.loop-written-preserved

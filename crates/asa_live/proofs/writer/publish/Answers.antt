@@ -1,5 +1,5 @@
 use Rattle.std.proofs.Common.{sym, ap, subst, ◌∙◌, [], ◌∷◌, ◌++◌}
-use Rattle.asa_live.proofs.Publishing.{publishes}
+use Rattle.asa_live.proofs.PublishLaws.{publishes}
 use Rattle.asa_live.proofs.writer.publish.Goals as goal
 
 pub publish_as-requires : goal.publish_as-requires

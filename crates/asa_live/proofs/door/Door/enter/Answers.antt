@@ -1,5 +1,5 @@
 use Rattle.std.proofs.Common.{sym, ◌∙◌}
-use Rattle.asa_live.proofs.Steps.{looks}
+use Rattle.asa_live.proofs.StepLaws.{looks}
 use Rattle.asa_live.proofs.door.Door.enter.Goals as goal
 
 pub enter_as-requires : goal.enter_as-requires

@@ -1,6 +1,6 @@
 use Rattle.std.proofs.Common.{refl, subst}
 use mathlib.Core.List.{IsPrefix}
-use Rattle.asa_live.proofs.Prefixes.{begins_by}
+use Rattle.asa_live.proofs.PrefixLaws.{begins_by}
 use Rattle.asa_live.proofs.front.Front.begins.Goals as goal
 
 pub returns : goal.returns

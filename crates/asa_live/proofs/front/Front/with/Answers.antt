@@ -1,5 +1,5 @@
 use Rattle.std.proofs.Common.{sym, ◌∙◌, ap, length}
-use Rattle.asa_live.proofs.Adding.{adds_moves}
+use Rattle.asa_live.proofs.AddLaws.{adds_moves}
 use Rattle.asa_live.proofs.front.Front.with.Goals as goal
 
 pub compare_exchange-found-requires : goal.compare_exchange-found-requires

@@ -4,8 +4,8 @@ use Rattle.asa_pair_trie.specs.declared.entries.Entry.{Entry}
 use Rattle.asa_pair_trie.specs.declared.arenas.OuterNode.{OuterNode}
 use Rattle.asa_pair_trie.specs.declared.arenas.InnerNode.{InnerNode}
 use Rattle.asa_pair_trie.specs.declared.arenas.Slot.{Slot}
-use Rattle.asa_pair_trie.specs.Finding.{IsRising, entries_in}
-use Rattle.asa_pair_trie.specs.Building.{OuterGrown}
+use Rattle.asa_pair_trie.specs.Lookup.{IsRising, entries_in}
+use Rattle.asa_pair_trie.specs.Growth.{OuterGrown}
 use Rattle.asa_pair_trie.proofs.GrowLaws.{built_is}
 use Rattle.asa_pair_trie.proofs.arenas.PairTrie.build.Goals as goal
 

@@ -1,5 +1,0 @@
-use Rattle.std.proofs.Common.{length}
-use Rattle.asa_acl.proofs.using.+add_at.Given as goal
-
-abbrev pub decreases-add_at : goal.decreases-add_at
-decreases-add_at l = length l.places.now

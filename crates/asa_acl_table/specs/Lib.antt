@@ -1,0 +1,4 @@
+pub mod Names
+pub mod Uses
+pub mod Lists
+pub mod Limits

@@ -1,6 +1,0 @@
-use Rattle.std.proofs.Common.{◌≡◌, ◌++◌, drop, map}
-use Rattle.asa_boxes.specs.Boxes.{box_of}
-use Rattle.asa_boxes.proofs.boxing.push_services.Given as goal
-
-abbrev pub invariant-loop-service : goal.invariant-loop-service
-invariant-loop-service l = l.boxes.items ++ map (λ v. box_of l.entry.line l.entry.permit l.source l.dest v) (drop l.service-index l.services) ≡ l.initial.boxes.items ++ map (λ v. box_of l.entry.line l.entry.permit l.source l.dest v) l.services

@@ -1,0 +1,4 @@
+pub mod MirrorLaws
+pub mod OrderLaws
+pub mod ShelfLaws
+pub mod TableLaws

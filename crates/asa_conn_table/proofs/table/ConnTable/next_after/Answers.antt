@@ -1,0 +1,18 @@
+-- The place of the least id that passes has the first connection of the list that passes.
+use Rattle.std.proofs.Common.{nat_lt, sym, ap, ◌∙◌}
+use Rattle.asa_conn_table.specs.Conns.{Table, next_after}
+use Rattle.asa_conn_table.proofs.TableLaws.{least_id, least_none_of, read_slot}
+use Rattle.asa_conn_table.proofs.table.ConnTable.next_after.Goals as goal
+
+pub returns-in_err-place : goal.returns-in_err-place
+returns-in_err-place c =
+    c.from_residual.ensures
+    ∙ sym (least_none_of c.self.inside.shelf.slots c.self.invariant.distinct (λ d. nat_lt c.args.id d.id) c.after.result c.after.ensures c.in_err-place.was)
+    ∙ ap (λ (t : Table). next_after c.args.id t.conns) c.self.view_is
+
+pub returns : goal.returns
+returns c =
+    let xs = c.self.inside.shelf.slots in
+    sym (least_id xs c.self.invariant.distinct (λ d. nat_lt c.args.id d.id) c.after.result c.in_ok-place.place c.in_ok-get.field-0.now c.after.ensures c.in_ok-place.was
+    (read_slot xs c.in_ok-place.place c.get.result c.in_ok-get.field-0 c.get.ensures c.in_ok-get.was))
+    ∙ ap (λ (t : Table). next_after c.args.id t.conns) c.self.view_is

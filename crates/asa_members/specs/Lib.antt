@@ -1,8 +1,0 @@
-pub mod Reading
-pub mod Services
-pub mod Blocks
-pub mod Items
-pub mod Tops
-pub mod Objects
-pub mod Groups
-pub mod Forms

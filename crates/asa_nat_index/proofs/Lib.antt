@@ -1,0 +1,3 @@
+pub mod EntryLaws
+pub mod IndexLaws
+pub mod ShelfLaws

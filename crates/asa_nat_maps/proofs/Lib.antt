@@ -1,0 +1,4 @@
+pub mod FirstLaws
+pub mod MapLaws
+pub mod PlaceLaws
+pub mod ReachLaws

@@ -1,0 +1,8 @@
+use Rattle.std.proofs.Common.{nat_le, rules}
+use Rattle.std.proofs.lemmas.List.Sorted.{IsPartitionPoint-from_clause, IsPartitionedBy-leb}
+use Rattle.asa_nat_maps.proofs.piece.count_up_to_address.Goals as goal
+
+pub returns : goal.returns
+returns c =
+    IsPartitionPoint-from_clause (λ x. nat_le x.range.first.0 c.args.address.0) _ _ c.partition_point.ensures.partitioned
+    (IsPartitionedBy-leb (λ x. x.range.first.0) _ c.args.address.0 c.requires) (λ a r f k. search rules)

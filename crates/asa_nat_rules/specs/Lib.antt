@@ -1,0 +1,9 @@
+pub mod Cases
+pub mod Faults
+pub mod Maps
+pub mod Meanings
+pub mod Names
+pub mod Pairs
+pub mod Pools
+pub mod Ports
+pub mod Sets

@@ -1,0 +1,4 @@
+pub mod EarlierLaws
+pub mod FaultLaws
+pub mod PairLaws
+pub mod SameLaws

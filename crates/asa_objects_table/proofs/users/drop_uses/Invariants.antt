@@ -1,0 +1,6 @@
+use Rattle.std.proofs.Common.{take}
+use Rattle.asa_objects_table.specs.Users.{AreUnused}
+use Rattle.asa_objects_table.proofs.users.drop_uses.Given as goal
+
+abbrev pub invariant-loop-name : goal.invariant-loop-name
+invariant-loop-name l = AreUnused l.initial.uses.entries l.uses.entries l.user (take l.name-index l.names)

@@ -1,0 +1,10 @@
+pub mod Amounts
+pub mod Ranks
+pub mod Climbs
+pub mod Renewals
+pub mod Users
+pub mod Changes
+pub mod Weights
+pub mod Table
+pub mod Effects
+pub mod RunningTotals

@@ -1,6 +1,0 @@
-use Rattle.std.proofs.Common.{take}
-use Rattle.asa_ranks.specs.Using.{AreUsed}
-use Rattle.asa_ranks.proofs.using.add_uses.Given as goal
-
-abbrev pub invariant-loop-name : goal.invariant-loop-name
-invariant-loop-name l = AreUsed l.initial.uses.entries l.uses.entries l.user (take l.name-index l.names)

@@ -1,7 +1,0 @@
-use Rattle.std.proofs.Common.{◌≡◌, drop}
-use Rattle.asa_ranks.specs.Ranks.{both_totals}
-use Rattle.asa_ranks.specs.Weighing as spec
-use Rattle.asa_ranks.proofs.weighing.weight_of_slice.Given as goal
-
-abbrev pub invariant-loop-item : goal.invariant-loop-item
-invariant-loop-item l = both_totals l.totals (spec.weights l.ranks.entries l.group (drop l.item-index l.items)) ≡ spec.weights l.ranks.entries l.group l.items

@@ -1,0 +1,26 @@
+//! Refusals of a line that is out of form, or that isn't built.
+ghost use Rattle.std.specs.Prelude.{◌≡◌};
+ghost use Rattle.asa_session.specs.declared.session.SessionError.TheVariants as error;
+ghost use Rattle.asa_session.specs.declared.session.SessionKind.TheVariants as kind;
+
+use crate::session::{SessionError, SessionKind};
+
+/// The refusal of a line that has none of the forms of its place.
+pub(crate) fn out_of_form(line: u32) -> SessionError
+    ensures { result ≡ error.At line kind.Syntax }
+{
+    SessionError::At {
+        line,
+        kind: SessionKind::Syntax,
+    }
+}
+
+/// The refusal of a script line that isn't built.
+pub(crate) fn unbuilt_script(line: u32) -> SessionError
+    ensures { result ≡ error.At line kind.NotBuilt }
+{
+    SessionError::At {
+        line,
+        kind: SessionKind::NotBuilt,
+    }
+}

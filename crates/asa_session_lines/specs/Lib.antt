@@ -1,0 +1,4 @@
+pub mod Flags
+pub mod Lines
+pub mod Packets
+pub mod Words

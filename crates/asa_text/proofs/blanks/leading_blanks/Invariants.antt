@@ -1,0 +1,7 @@
+-- no byte before the index ends the run
+use Rattle.std.proofs.Common.{◌≡◌, ℕ, ◌<◌, true, get_or}
+use Rattle.asa_text.specs.Lines.{is_blank}
+use Rattle.asa_text.proofs.blanks.leading_blanks.Given as goal
+
+abbrev pub invariant-loop-i : goal.invariant-loop-i
+invariant-loop-i l = (k : ℕ) → k < l.i → (is_blank (get_or l.bytes k 0)) ≡ true

@@ -1,0 +1,6 @@
+-- the values so far
+use Rattle.std.proofs.Common.{◌≡◌, take}
+use Rattle.asa_text.proofs.items.Items.copy.Given as goal
+
+abbrev pub invariant-loop-item : goal.invariant-loop-item
+invariant-loop-item g l = l.items.items ≡ take l.item-index l.self

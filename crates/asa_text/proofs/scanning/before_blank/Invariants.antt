@@ -1,7 +1,0 @@
--- no byte before the index ends the run
-use Rattle.std.proofs.Common.{◌≡◌, ℕ, ◌<◌, false, get_or}
-use Rattle.asa_text.specs.Lines.{is_blank}
-use Rattle.asa_text.proofs.scanning.before_blank.Given as goal
-
-abbrev pub invariant-loop-i : goal.invariant-loop-i
-invariant-loop-i l = (k : ℕ) → k < l.i → (is_blank (get_or l.bytes k 0)) ≡ false

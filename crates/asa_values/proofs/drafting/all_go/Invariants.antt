@@ -1,6 +1,0 @@
-use Rattle.std.proofs.Common.{◌≡◌}
-use Rattle.asa_values.specs.Marks.{is_none, standing}
-use Rattle.asa_values.proofs.drafting.all_go.Given as goal
-
-abbrev pub invariant-loop-item : goal.invariant-loop-item
-invariant-loop-item l = is_none (standing l.item-iterator l.gone.keys) ≡ is_none (standing l.items l.gone.keys)

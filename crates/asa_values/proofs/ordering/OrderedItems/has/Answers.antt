@@ -1,9 +1,0 @@
-use Rattle.std.proofs.Common.{is_some, ap, ◌∙◌}
-use Rattle.asa_values.specs.Defining.{has_item}
-use Rattle.asa_values.proofs.OrderLaws.{number-is}
-use Rattle.asa_values.proofs.ordering.OrderedItems.has.Goals as goal
-
-pub returns-clause-value : goal.returns-clause-value
-returns-clause-value c =
-    c.contains_key.ensures ∙ ap is_some (c.self.invariant.known c.args.item.now) ∙ number-is c.self.inside.order.entries c.args.item.now
-    ∙ ap (λ xs. has_item xs c.args.item.now) c.self.view_is

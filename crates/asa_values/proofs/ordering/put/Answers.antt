@@ -1,8 +1,0 @@
-use Rattle.std.proofs.Common.{◌∷◌, [], ◌++◌, ap, ◌∙◌}
-use Rattle.asa_values.proofs.OrderLaws.{insert-last}
-use Rattle.asa_values.proofs.ordering.put.Goals as goal
-
-pub returns-clause-ok : goal.returns-clause-ok
-returns-clause-ok c =
-    c.in_ok-insert.ensures.entries ∙ insert-last c.args.order.now.entries c.args.number c.copy.result c.requires
-    ∙ ap (λ i. c.args.order.now.entries ++ (c.args.number, i) ∷ []) c.copy.ensures
