@@ -1,6 +1,10 @@
 //! That the index answers as the cases read one after another do, and values from the rules.
+ghost use Rattle.std.specs.Prelude.{◌≡◌, ◌≤◌, true, IfSome, ◌<◌};
+ghost use Rattle.asa_nat_rules.specs.Pairs.{case_pairs};
+ghost use Rattle.asa_nat_index.specs.Matches.{IsNarrow};
+
 use crate::{NatIndex, destination_listed, source_listed};
-use asa_base::{Addr, Counter, NatPlace, Packet, PortRange, Range};
+use asa_base::{Addr, Counter, NatPlace, Packet, PortRange, Range, prefix_count};
 use asa_nat_rules::{Case, CaseMap};
 use asa_text::Items;
 use std::alloc::Global;
@@ -86,6 +90,49 @@ fn opposite(
     })
 }
 
+/// Whether it is any interface, or one of the first 64.
+fn is_narrow(ifc: Option<u8>) -> bool
+    ensures { result ≡ true → IfSome ifc (λ n. n < 64) }
+{
+    match ifc {
+        None => true,
+        Some(number) => number < 64,
+    }
+}
+
+/// Whether a case is over one range on each side, with at most 16 prefix pairs.
+fn has_few_pairs(case: &Case) -> bool
+    ensures { result ≡ true → case_pairs case.now ≤ 16 }
+{
+    let source = case.source.as_slice();
+    let dest = case.dest.as_slice();
+    if source.len() != 1 || dest.len() != 1 {
+        return false;
+    }
+    prefix_count(source[0]) * prefix_count(dest[0]) <= 16
+}
+
+/// Whether a case meets what the index asks of each.
+fn is_small(case: &(NatPlace, Case)) -> bool
+    ensures narrow { result ≡ true → IsNarrow case.now }
+    ensures few { result ≡ true → case_pairs case.now.1 ≤ 16 }
+{
+    is_narrow(case.1.from) && is_narrow(case.1.to) && has_few_pairs(&case.1)
+}
+
+/// The index of cases, which is asked for few and small ones alone.
+fn index_of(alloc: Global, cases: &[(NatPlace, Case)]) -> Result<NatIndex, Fail> {
+    if cases.len() > 16_384 {
+        return Err(Fail::from("too many cases"));
+    }
+    for case in cases {
+        if !is_small(case) {
+            return Err(Fail::from("a wide case"));
+        }
+    }
+    Ok(NatIndex::build(alloc, cases)?)
+}
+
 #[test]
 fn an_index_without_cases_finds_none(rt: HostRuntime) -> Result<(), Fail> {
     let index = NatIndex::build(rt.alloc(), &[])?;
@@ -124,7 +171,7 @@ fn the_first_case_counts_whether_its_interfaces_are_any_or_named(
             forward(alloc, None, None, host, Range::only(Addr(93)))?,
         ),
     ];
-    let index = NatIndex::build(alloc, &cases)?;
+    let index = index_of(alloc, &cases)?;
     let mut reads = Counter::new();
     let p = packet(1, 10, 7, 80);
     let q = packet(0, 10, 7, 80);
@@ -158,7 +205,7 @@ fn ports_and_protocol_tell_cases_of_one_address_apart(rt: HostRuntime) -> Result
         (place(1), web),
         (place(2), opposite(alloc, Some(0), Some(1), mapped, real)?),
     ];
-    let index = NatIndex::build(alloc, &cases)?;
+    let index = index_of(alloc, &cases)?;
     let mut reads = Counter::new();
     assert_eq!(rt;
         (
@@ -191,7 +238,7 @@ fn each_of_eight_thousand_hosts_has_its_two_cases(rt: HostRuntime) -> Result<(),
     let all = Range::all();
     cases.push((place(8001), forward(alloc, None, None, all, all)?))?;
     assert_eq!(rt; cases.len(), 16_001);
-    let index = NatIndex::build(alloc, &cases)?;
+    let index = index_of(alloc, &cases)?;
     let mut reads = Counter::new();
     for k in 0..8000u32 {
         let out = packet(63, 0x0a00_0000 + k, 7, 80);
@@ -253,7 +300,7 @@ fn the_index_answers_as_the_list_of_mixed_cases_does(rt: HostRuntime) -> Result<
         ))?;
     }
     assert_eq!(rt; cases.len(), 300);
-    let index = NatIndex::build(alloc, &cases)?;
+    let index = index_of(alloc, &cases)?;
     let mut reads = Counter::new();
     let mut has_both = false;
     for _ in 0..2000 {
