@@ -23,7 +23,8 @@ taken : (ks : List (NatPlace × Case)) (i : ℕ) (k : NatPlace × Case) → drop
 taken ks i k left narrow few before = (
   λ rest. before.0 (subst (All IsNarrow) (sym left) (All-cons IsNarrow k (drop (i + 1) ks) narrow rest)),
   one_more (pairs_of ks) (case_pairs k.1) (pairs_of (drop (i + 1) ks)) (pairs_of (drop i ks)) i before.1
-    (ap pairs_of left ∙ sum_by-cons (λ x. case_pairs x.1) k (drop (i + 1) ks)) few)
+      (ap pairs_of left ∙ sum_by-cons (λ x. case_pairs x.1) k (drop (i + 1) ks)) few,
+)
 
 pub loop-case-preserved : goal.loop-case-preserved
 loop-case-preserved c = taken c.args.cases.now c.loop-case.case-index c.case-item.result
