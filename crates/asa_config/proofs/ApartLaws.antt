@@ -11,7 +11,8 @@ use Rattle.asa_acl.specs.Acls.{AccessLines, list_uses}
 use Rattle.asa_objects_lines.specs.declared.top.Top.{Top}
 use Rattle.asa_objects_lines.specs.Tops.{top_at}
 use Rattle.asa_objects_values.specs.declared.faults.ObjectFault.{ObjectFault}
-use Rattle.asa_objects_values.specs.Definition.{and_then, read_at, top_text, defined_by, defined}
+use Rattle.asa_text.specs.Blocks.{top_text}
+use Rattle.asa_objects_values.specs.Definition.{and_then, read_at, defined_by, defined}
 use Rattle.asa_objects.specs.Frames.{ForName, KeepsOthers, KeepsRest}
 use Rattle.asa_objects.specs.Frames as keeping
 use Rattle.asa_objects_table.specs.Ranks.{has_name}

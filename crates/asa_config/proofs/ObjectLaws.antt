@@ -60,7 +60,6 @@ refused_for (fault.Bad n k) c new b made = ap (λ r. of_objects r >>= changed c)
 refused_for (fault.Unsupported n k) c new b made = ap (λ r. of_objects r >>= changed c) made.0
 refused_for (fault.Cycle n) c new b made = ap (λ r. of_objects r >>= changed c) made.0
 refused_for (fault.NoSuchMember n) c new b made = ap (λ r. of_objects r >>= changed c) made.0
-refused_for (fault.NotBuilt n) c new b made = ap (λ r. of_objects r >>= changed c) made.0
 refused_for (fault.NoValue n) c new b made = ap (λ r. of_objects r >>= changed c) made.0
 refused_for fault.TooMany c new b made = ap (λ r. of_objects r >>= changed c) made.0
 

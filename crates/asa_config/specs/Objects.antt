@@ -1,6 +1,7 @@
 -- Blocks of objects and groups, and the lines that remove one.
-use Rattle.std.specs.Prelude.{◌≡◌, ℕ, ◌<◌, ◌≤◌, true, List, Option, Some, None, Result, Ok, Err}
+use Rattle.std.specs.Prelude.{◌≡◌, ℕ, ◌+◌, ◌<◌, ◌≤◌, true, List, [], ◌∷◌, Option, Some, None, Result, Ok, Err, if◌then◌else◌}
 use Rattle.std.specs.Option.{option_map}
+use Rattle.asa_text.specs.declared.lines.Line.{Line}
 use Rattle.asa_text.specs.declared.blocks.Block.{Block}
 use Rattle.asa_acl.specs.Acls.{AccessLines}
 use Rattle.asa_objects_lines.specs.Tops.{removal_at}
@@ -12,6 +13,7 @@ use Rattle.asa_objects_values.specs.Tables.{Table, user_of, without_name, reache
 use Rattle.asa_config_edit.specs.declared.fault.EditFault.TheVariants.{Bad, Unsupported, Unknown, NameTaken, NoSuchLine, InUse, Cycle, TooMany, TooLarge, NotBuilt}
 use Rattle.asa_config_edit.specs.declared.fault.EditRefusal.{EditRefusal}
 use Rattle.asa_config_edit.specs.declared.fault.EditRefusal.TheVariants.{At, NoMemory}
+use Rattle.asa_config_edit.specs.Classes.{is_nat_line}
 use Rattle.asa_config_edit.specs.Refusals.{Judged, ◌>>=◌, refused, top_read, alone}
 use Rattle.asa_acl_table.specs.Limits.{capped}
 use Rattle.asa_acl_table.specs.Lists.{first_using}
@@ -27,7 +29,6 @@ object_refusal (object.Bad line column) = At line (Bad column)
 object_refusal (object.Unsupported line column) = At line (Unsupported column)
 object_refusal (object.Cycle line) = At line Cycle
 object_refusal (object.NoSuchMember line) = At line NoSuchLine
-object_refusal (object.NotBuilt line) = At line NotBuilt
 object_refusal (object.NoValue column) = At 1 (Bad column)
 object_refusal object.TooMany = At 1 TooMany
 object_refusal object.NoMemory = NoMemory
@@ -49,6 +50,11 @@ with_objects c objects = record c { objects = objects }
 -- the configuration with other objects and groups, as far as it fits
 abbrev pub changed : Settings → Table → Judged Settings
 changed c objects = fitting (with_objects c objects)
+
+-- the lines of a block from line n on, of which none is about NAT: that isn't built yet
+unfoldable pub without_nat : ℕ → List Line → Judged (Unit {0})
+without_nat n [] = Ok tt
+without_nat n (l ∷ ls) = if is_nat_line l then refused n NotBuilt else without_nat (n + 1) ls
 
 -- `object ..` or `object-group ..` with its lines
 unfoldable pub object_step : Settings → Block → Judged Settings

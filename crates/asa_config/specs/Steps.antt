@@ -1,14 +1,15 @@
 -- The step of a configuration by one block, and its fold over blocks.
 use Rattle.std.specs.Prelude.{Bool, true, false, List, codes, fold, Ok, Err, if◌then◌else◌}
 use Rattle.asa_text.specs.declared.blocks.Block.{Block}
+use Rattle.asa_text.specs.Blocks.{inner_lines, top_text}
 use Rattle.asa_text.specs.Words.{Left, line_left}
 use Rattle.asa_text.specs.Readers.{after_one, next_is}
 use Rattle.asa_config_edit.specs.declared.fault.EditFault.TheVariants.{NotBuilt}
 use Rattle.asa_config_edit.specs.Classes.{is_passed, begins_object}
-use Rattle.asa_config_edit.specs.Refusals.{Judged, refused, top_text}
+use Rattle.asa_config_edit.specs.Refusals.{Judged, ◌>>=◌, refused}
 use Rattle.asa_config.specs.Settings.{Settings, nothing}
 use Rattle.asa_config.specs.Net.{interface_step, route_step, no_route_step, timeout_step, permits_step}
-use Rattle.asa_config.specs.Objects.{object_step, no_object_step}
+use Rattle.asa_config.specs.Objects.{object_step, no_object_step, without_nat}
 use Rattle.asa_config.specs.Lists.{line_step, no_line_step}
 use Rattle.asa_config.specs.Groups.{group_step, no_group_step}
 
@@ -37,7 +38,7 @@ other_step c b startup left =
 unfoldable pub taken_step : Settings → Block → Bool → Left → Judged Settings
 taken_step c b startup left =
     if next_is (codes "no") left then removal_step c b (after_one left)
-    else (if begins_object left then object_step c b else other_step c b startup left)
+    else (if begins_object left then (without_nat 2 (inner_lines b) >>= λ _. object_step c b) else other_step c b startup left)
 
 -- the next configuration, or the refusal with its line in the block; `startup` tells that the block stands before `: end`.
 -- A block that is passed over changes nothing.

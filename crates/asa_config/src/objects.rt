@@ -1,10 +1,11 @@
 //! Blocks of objects and groups, and the lines that remove one.
-ghost use Rattle.std.specs.Prelude.{◌≡◌, ℕ, List, false, None, Ok, OnOk, is_some};
+ghost use Rattle.std.specs.Prelude.{◌≡◌, ◌<◌, ◌+◌, ◌-◌, ◌^◌, ℕ, List, length, false, None, Ok, OnOk, is_some};
 ghost use Rattle.std.specs.List.{list_any};
 ghost use Rattle.asa_objects_lines.specs.Tops.{removal_at};
 ghost use Rattle.asa_objects.specs.Frames.{ForName};
 ghost use Rattle.asa_objects_table.specs.Ranks.{has_name};
 ghost use Rattle.asa_objects_values.specs.Tables.{reaches, user_of, without_name};
+ghost use Rattle.asa_config_edit.specs.Classes.{is_nat_line};
 ghost use Rattle.asa_config_edit.specs.Refusals.{Gives, Makes, top_read};
 ghost use Rattle.asa_acl_table.specs.Names.{meanings_in, pairs_of_lists};
 ghost use Rattle.asa_config.specs.Names.{known_of};
@@ -18,7 +19,7 @@ use asa_config_edit::{EditFault, EditRefusal, alone, line_refusal, refused, top_
 use asa_ifaces::Ifaces;
 use asa_objects::{ObjectFault, Objects};
 use asa_objects_lines::{Removal, read_removal};
-use asa_text::Block;
+use asa_text::{Block, Line};
 use std::alloc::Global;
 
 /// The refusal of a block for a fault of its object or group.
@@ -34,7 +35,6 @@ fn object_refusal(fault: ObjectFault) -> EditRefusal
         }
         ObjectFault::Cycle { line } => refused(line, EditFault::Cycle),
         ObjectFault::NoSuchMember { line } => refused(line, EditFault::NoSuchLine),
-        ObjectFault::NotBuilt { line } => refused(line, EditFault::NotBuilt),
         ObjectFault::NoValue { column } => refused(1, EditFault::Bad { column }),
         ObjectFault::TooMany => refused(1, EditFault::TooMany),
         ObjectFault::NoMemory => EditRefusal::NoMemory,
@@ -91,6 +91,30 @@ fn recounted(
         return Err(too_large(total));
     }
     Ok(total as u64)
+}
+
+/// Whether a line is `nat ..` or `no nat ..`.
+#[tactic(auto, unfolding(asa_config_edit::specs::Classes::is_nat_line))]
+fn is_nat_line(line: &Line) -> bool
+    ensures { result ≡ is_nat_line line.now }
+{
+    let mut words = line.words();
+    let _no = words.takes(b"no");
+    words.next_is(b"nat")
+}
+
+/// That none of the indented lines of a block is about NAT.
+#[tactic(auto, unfolding(crate::specs::Objects::without_nat))]
+pub(crate) fn without_nat(lines: &[Line]) -> Result<(), EditRefusal>
+    requires few { length lines.now + 1 < 2 ^ 32 - 1 }
+    ensures { result ≡ spec.without_nat 2 lines.now }
+{
+    for (i, line) in lines.iter().enumerate() {
+        if is_nat_line(line) {
+            return Err(refused(i as u32 + 2, EditFault::NotBuilt));
+        }
+    }
+    Ok(())
 }
 
 impl Config {

@@ -3,6 +3,7 @@ ghost use Rattle.asa_config_edit.specs.Refusals.{Gives};
 ghost use Rattle.asa_config.specs.Steps as spec;
 
 use crate::config::Config;
+use crate::objects::without_nat;
 use asa_config_edit::{
     EditFault, EditRefusal, after_one, begins_object, is_passed, refused, top_words,
 };
@@ -86,6 +87,7 @@ impl Config {
             return self.step_removal(block, &after_one(words));
         }
         if begins_object(words) {
+            without_nat(block.inner_lines())?;
             return self.step_object(block);
         }
         self.step_other(block, startup, words)
