@@ -64,13 +64,18 @@ writes_more ps qs before mid g g1 g2 f f1 f2 (Err (status.WriteFault written)) w
     let first = w.0 in
     let within = v.2 in
     let second = v.3 in
-    rw (joined_both ps qs) (rose_since f f1 f2 later v.0, length (joined ps) + v.1, rw n (omega arith), omega arith,
-    rw t (appends_both g g1 g2 (joined ps) (take v.1 (joined qs)) w.1 v.4))
+    rw (joined_both ps qs) (
+      rose_since f f1 f2 later v.0,
+      length (joined ps) + v.1,
+      rw n (omega arith),
+      omega arith,
+      rw t (appends_both g g1 g2 (joined ps) (take v.1 (joined qs)) w.1 v.4),
+    )
 writes_more ps qs before mid g g1 g2 f f1 f2 (Err status.Memory) w later v =
     let n = length-append ps qs in
     let within = v.1 in
     let t : joined (take (length ps + v.0) (ps ++ qs)) ≡ joined ps ++ joined (take v.0 qs) =
-        ap (λ l. joined l) (take-append-add ps qs v.0) ∙ joined_both ps (take v.0 qs) in
+    ap (λ l. joined l) (take-append-add ps qs v.0) ∙ joined_both ps (take v.0 qs) in
     (length ps + v.0, rw n (omega arith), rw t (appends_both g g1 g2 (joined ps) (joined (take v.0 qs)) w.1 v.2))
 writes_more ps qs before mid g g1 g2 f f1 f2 (Err status.Done) w later v = absurd v
 writes_more ps qs before mid g g1 g2 f f1 f2 (Err (status.Refused line why)) w later v = absurd v

@@ -20,12 +20,7 @@ const CUT_LIMIT: u64 = 1_000_000;
 
 /// The text of what is found of a line of a list.
 #[tactic(auto, unfolding(crate::specs::Shadows::line_text))]
-fn line_text(
-    alloc: Global,
-    name: &Name,
-    boxes: &[BoxAt],
-    line: u32,
-) -> Result<Vec<u8>, AllocError>
+fn line_text(alloc: Global, name: &Name, boxes: &[BoxAt], line: u32) -> Result<Vec<u8>, AllocError>
     requires { length boxes.now < 2 ^ 32 - 1 }
     ensures { IfOk result (λ out. out.items ≡ spec.line_text name.now boxes.now line) }
 {

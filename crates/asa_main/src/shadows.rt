@@ -66,7 +66,10 @@ fn each_active_line_has_its_finding(rt: HostRuntime) -> Result<(), Fail> {
 fn the_word_asks_for_the_findings(rt: HostRuntime) -> Result<(), Fail> {
     let alloc = rt.alloc();
     let r = ran(&rt, alloc, &["shadow"], &[TWO_LISTS], (0, 0), 10_000)?;
-    assert_eq!(rt; (exit_code(&r.status), r.written.as_slice()), (0, TWO_LISTS_FINDINGS));
+    assert_eq!(rt;
+        (exit_code(&r.status), r.written.as_slice()),
+        (0, TWO_LISTS_FINDINGS)
+    );
     let r = ran(&rt, alloc, &["shadow", "X"], &[TWO_LISTS], (0, 0), 10_000)?;
     assert_eq!(rt; (exit_code(&r.status), r.written.len()), (2, 0));
     Ok(())
