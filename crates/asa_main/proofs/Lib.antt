@@ -1,1 +1,3 @@
-mod RunLaws
+pub mod WritingLaws
+pub mod FindingLaws
+pub mod RunLaws

@@ -1,2 +1,5 @@
+pub mod Forms
+pub mod Shadows
+pub mod Outputs
 pub mod Outcome
 pub mod Statuses

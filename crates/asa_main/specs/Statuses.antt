@@ -22,7 +22,7 @@ reason_text reason.TooLong = codes "too-long"
 unfoldable pub status_text : Status → List ℕ
 status_text status.Done = []
 status_text (status.Refused line why) = refused_line line (reason_text why)
-status_text status.Usage = codes "asa: usage: asa run [--conns N] | check | gen START SIZE\n"
+status_text status.Usage = codes "asa: usage: asa run [--conns N] | check | gen START SIZE | shadow\n"
 status_text status.ReadFault = codes "asa: read failed\n"
 status_text (status.WriteFault written) = write_failed_line written
 status_text status.Memory = codes "asa: out of memory\n"

@@ -1,4 +1,4 @@
-//! The sessions of the folder of examples, with their reports, which are worked by hand.
+//! The inputs of the folder of examples, with their reports, which are worked by hand.
 pub const DMZ: &[u8] =
     b": A firewall with a DMZ: the outside reaches two servers there, and one of them reaches the database inside.
 interface GigabitEthernet0/0
@@ -430,4 +430,45 @@ a 1.6 3 drop acl-in policy 23 implicit
 a 1.7 3 drop acl-in policy 23 implicit
 a 1.8 3 drop acl-in policy 23 implicit
 done 3
+";
+
+pub const SHADOWED_LINES: &[u8] =
+    b": Two lists with lines that never decide: line 6 of the first, which two lines before it cover together, line 9, which
+: matches nothing, and line 3 of the second, of whose two services each has a line before it.
+object-group service WEB-AND-NAMES
+ service-object tcp destination eq https
+ service-object udp destination eq domain
+!
+access-list OUTSIDE-IN remark The web server
+access-list OUTSIDE-IN extended permit tcp any host 10.1.0.80 eq https
+access-list OUTSIDE-IN extended permit tcp any host 10.1.0.80 eq www
+access-list OUTSIDE-IN extended deny ip 198.51.100.0 255.255.255.128 any
+access-list OUTSIDE-IN extended deny ip 198.51.100.128 255.255.255.128 any
+access-list OUTSIDE-IN extended permit tcp 198.51.100.0 255.255.255.0 host 10.1.0.25 eq smtp
+access-list OUTSIDE-IN extended permit tcp any host 10.1.0.80 range 80 443
+access-list OUTSIDE-IN extended permit tcp any host 10.1.0.80 eq ssh inactive
+access-list OUTSIDE-IN extended permit udp any6 any
+!
+access-list INSIDE-IN extended permit tcp 10.0.0.0 255.255.255.0 any eq https
+access-list INSIDE-IN extended permit udp 10.0.0.0 255.255.255.0 any eq domain
+access-list INSIDE-IN extended permit object-group WEB-AND-NAMES host 10.0.0.5 any
+access-list INSIDE-IN extended deny ip any any
+: end
+";
+
+pub const SHADOWED_LINES_FINDINGS: &[u8] = b"shadow OUTSIDE-IN 2 no tcp 0.0.0.0 0 10.1.0.80 443 -
+shadow OUTSIDE-IN 3 no tcp 0.0.0.0 0 10.1.0.80 80 -
+shadow OUTSIDE-IN 4 no icmp 198.51.100.0 0 0 0 0.0.0.0
+shadow OUTSIDE-IN 5 no icmp 198.51.100.128 0 0 0 0.0.0.0
+shadow OUTSIDE-IN 6 yes 1
+k c1:3325256831 b3 b4
+shadow OUTSIDE-IN 7 no tcp 0.0.0.0 0 10.1.0.80 81 -
+shadow OUTSIDE-IN 9 yes 0
+shadow INSIDE-IN 1 no tcp 10.0.0.0 0 0.0.0.0 443 -
+shadow INSIDE-IN 2 no udp 10.0.0.0 0 0.0.0.0 53
+shadow INSIDE-IN 3 yes 0
+k b1
+k b2
+shadow INSIDE-IN 4 no icmp 0.0.0.0 0 0 0 0.0.0.0
+done
 ";

@@ -21,7 +21,7 @@ pub enum Reason {
 /// How a run ended.
 #[derive(Debug, Drop)]
 pub enum Status {
-    /// The report was written whole.
+    /// All was written: the report of `run`, or the findings of `shadow` and their last line.
     Done,
     /// The input is refused at this line, from 1, or as a whole at line 0. Nothing was written.
     Refused { line: u32, reason: Reason },
@@ -29,9 +29,9 @@ pub enum Status {
     Usage,
     /// A read failed. Nothing was written.
     ReadFault,
-    /// A write or the flush failed after this many bytes of the report were written.
+    /// A write or the flush failed after this many bytes were written.
     WriteFault { written: u64 },
-    /// There was no memory. Nothing was written.
+    /// There was no memory. Nothing was written, or, by `shadow`, whole findings.
     Memory,
 }
 
@@ -75,7 +75,7 @@ pub fn write_status<K: Sink>(status: &Status, sink: &mut K) -> Result<(), WriteE
         }
         Status::Usage => write_all(
             sink,
-            b"asa: usage: asa run [--conns N] | check | gen START SIZE\n",
+            b"asa: usage: asa run [--conns N] | check | gen START SIZE | shadow\n",
         ),
         Status::ReadFault => write_all(sink, b"asa: read failed\n"),
         Status::WriteFault { written } => write_all(sink, write_failed_line(*written).as_bytes()),

@@ -1,4 +1,5 @@
 pub mod EndsLaws
 pub mod StartupLaws
+pub mod OpeningLaws
 pub mod ScriptLaws
 pub mod SessionLaws

@@ -17,8 +17,8 @@ use std::alloc::Global;
 const SYN: u8 = 1;
 /// The number of TCP.
 const TCP: u8 = 6;
-/// At most so many lines of the script are built.
-const MOST_LINES: u32 = 262_144;
+/// At most so many lines may stand after the startup part.
+pub(crate) const MOST_LINES: u32 = 262_144;
 
 /// Reads a port.
 fn read_port(words: &mut Words<'_>) -> Result<u16, LineFault>

@@ -5,12 +5,12 @@ ghost use Rattle.asa_session.specs.Readiness.{IsReady};
 ghost use Rattle.asa_session.specs.Sessions as spec;
 
 use crate::commands::script_packets;
-use crate::refusals::out_of_form;
-use crate::session::{Command, PhaseEnd, PhaseText, Session, SessionError, SessionKind};
-use crate::startup::{Startup, startup_config, without_passed};
+use crate::opening::{Opening, read_opening};
+use crate::session::{Command, PhaseEnd, PhaseText, Session, SessionError};
+use crate::startup::Startup;
 use asa_base::Packet;
 use asa_config::Config;
-use asa_text::{Block, BlockFault, Items, Lines, Shared, StartupText, cut_startup};
+use asa_text::{Items, Lines, Shared};
 use std::alloc::{AllocError, Global};
 
 /// The lane of every command.
@@ -45,7 +45,7 @@ fn phases_of(alloc: Global, packets: &[Packet]) -> Result<Items<PhaseText>, Allo
 }
 
 /// The session of its parts.
-fn session_with(
+pub(crate) fn session_with(
     alloc: Global,
     startup: Startup,
     config: Config,
@@ -62,16 +62,6 @@ fn session_with(
         config,
         phases,
     })
-}
-
-/// The startup blocks.
-fn startup_blocks(blocks: Result<Items<Block>, BlockFault>) -> Result<Items<Block>, SessionError>
-    ensures { result ≡ spec.startup_blocks blocks }
-{
-    match blocks {
-        Ok(blocks) => Ok(blocks),
-        Err(early) => Err(out_of_form(early.line)),
-    }
 }
 
 /// Reads the script of a session.
@@ -94,16 +84,7 @@ fn read_lines(alloc: Global, lines: &mut Lines<'_>) -> Result<Session, SessionEr
     requires { lines.old.number ≡ 1 }
     ensures { Judged result (spec.session_of_lines lines.old.lines) }
 {
-    let StartupText { blocks, ended } = cut_startup(alloc, lines)?;
-    let count = lines.number();
-    let startup = without_passed(alloc, startup_blocks(blocks)?)?;
-    let config = startup_config(alloc, startup.kept.as_slice())?;
-    if !ended {
-        return Err(SessionError::At {
-            line: count,
-            kind: SessionKind::NoEnd,
-        });
-    }
+    let Opening { startup, config } = read_opening(alloc, lines)?;
     read_script(alloc, startup, config, lines)
 }
 

@@ -1,4 +1,4 @@
-//! Refusals of a line that is out of form, or that isn't built.
+//! Refusals of a line that is out of form, is one too many, or isn't built.
 ghost use Rattle.std.specs.Prelude.{◌≡◌};
 ghost use Rattle.asa_session.specs.declared.session.SessionError.TheVariants as error;
 ghost use Rattle.asa_session.specs.declared.session.SessionKind.TheVariants as kind;
@@ -12,6 +12,16 @@ pub(crate) fn out_of_form(line: u32) -> SessionError
     SessionError::At {
         line,
         kind: SessionKind::Syntax,
+    }
+}
+
+/// The refusal of the line with which there are too many.
+pub(crate) fn too_many_lines(line: u32) -> SessionError
+    ensures { result ≡ error.At line kind.TooManyLines }
+{
+    SessionError::At {
+        line,
+        kind: SessionKind::TooManyLines,
     }
 }
 
