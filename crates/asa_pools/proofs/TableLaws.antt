@@ -120,9 +120,6 @@ module _ (less more : List Row) (h : Held) (each : (t : Key → Bool) → times 
     addresses = λ t. omega (arith, k.addresses t, each (on_address t), each (on_binding (λ b. t b.addr)));
   }
 
-  pub held_total : total more ≡ total less + 2
-  held_total = omega (arith, each (λ _. true))
-
 -- some rows count a binding and its address more than others
 module _ (less more : List Row) (b : Binding) (each : (t : Key → Bool) → times t more ≡ times t less + once t (key.Binding b) + once t (key.Address b.addr)) where
   pub bound_more : HasMore b (bound_list less) (bound_list more)
@@ -143,15 +140,7 @@ module _ (less more : List Row) (b : Binding) (each : (t : Key → Bool) → tim
     addresses = λ t. omega (arith, k.addresses t, each (on_address t), each (on_binding (λ c. t c.addr)));
   }
 
-  pub bound_total : total more ≡ total less + 2
-  bound_total = omega (arith, each (λ _. true))
-
 -- a value is counted by two keys
-module _ (m : Mapped) (ifc proto : ℕ) (src : Addr) (less more : List Row)
-    (each : (t : Key → Bool) → times t more ≡ times t less + once t (key_of m ifc proto src) + once t (part_of m proto)) where
-  pub more_total : total more ≡ total less + 2
-  more_total = omega (arith, each (λ _. true))
-
 module _ (ifc proto : ℕ) (src : Addr) (less more : List Row) where
   pub one_more : (m : Mapped) (room : ℕ) → ((t : Key → Bool) → times t more ≡ times t less + once t (key_of m ifc proto src) + once t (part_of m proto))
       → OneMore m ifc proto src (record { held = held_list less; bound = bound_list less; room = room }) (record { held = held_list more; bound = bound_list more; room = room })

@@ -16,25 +16,8 @@ use Rattle.asa_pools.specs.Tally.{AreRows, IsAbove, IsFound, IsMoved, IsTally, M
 use Rattle.asa_pools.proofs.KeyLaws.{same_key_is, same_key_self, wanted_is}
 
 module _ {r : Rings} {rows : List Row} (k : Mirrors r rows) where
-  -- a place in a ring has a row
-  pub row_there : (x : ℕ) → x < r.places → 0 < stamp r x → x < length rows
-  row_there x within live = ⊎_elim
-      (λ (lt : x < length rows). lt)
-      (λ (ge : length rows ≤ x). absurd (omega (arith, k.free x within ge, live)))
-      (cases_lt x (length rows))
-
   pub row_in : (p : ℕ) → p < length rows → In r (key_hash (row_at rows p).key % r.buckets) p
   row_in p h = record { place = omega (arith, h, k.long); joined = omega (arith, k.stamps p h); home = k.homes p h }
-
-  -- what isn't in the ring of its bucket isn't there
-  pub not_in_ring : (w : Wanted) (at : ℕ) → r.places ≤ at
-      → ((q : ℕ) → In r (wanted_hash w % r.buckets) q → passes w (row_at rows q).key ≡ true → (at < r.places) × (stamp r q ≤ stamp r at))
-      → IsFound w rows None
-  not_in_ring w at ge left = λ q h. ⊎_elim
-      (λ (pass : passes w (row_at rows q).key ≡ true).
-      absurd (omega (arith, ge, (left q (subst (λ x. In r (x % r.buckets) q) (wanted_is w (row_at rows q).key pass) (row_in q h)) pass).0)))
-      (λ (miss : passes w (row_at rows q).key ≡ false). miss)
-      (cases_Bool (passes w (row_at rows q).key))
 
 -- each step down leaves fewer stamps
 pub smaller_is : (r : Rings) (at y : ℕ) → at < r.places → 0 < stamp r at → (y < r.places → stamp r y < stamp r at)
@@ -91,72 +74,6 @@ module _ {rows : List Row} (k : AreRows rows) where
       by [] pos = omega arith
       by (x ∷ xs) pos = omega (arith, by xs (λ p h. pos (suc p) (omega (arith, h))), pos 0 (omega arith), sum_by-cons (weight (λ _. true)) x xs)
 
--- a row's count is no more than all
-pub count_small : (rows : List Row) (p : ℕ) → p < length rows → (row_at rows p).count ≤ total rows
-count_small rows p h = omega (arith, sum_by-swap_remove (weight (λ _. true)) rows p no_row h)
-
--- a row counts once more
-pub times_set : (t : Key → Bool) (rows : List Row) (p n : ℕ) → p < length rows → n ≡ (row_at rows p).count + 1
-    → times t (set rows p (record (row_at rows p) { count = n })) ≡ times t rows + once t (row_at rows p).key
-times_set t rows p n h e = by (t (row_at rows p).key) refl
-  where
-    by : (b : Bool) → t (row_at rows p).key ≡ b → times t (set rows p (record (row_at rows p) { count = n })) ≡ times t rows + once t (row_at rows p).key
-    by true is = omega (
-      arith,
-      e,
-      sum_by-set (weight t) rows p (record (row_at rows p) { count = n }) no_row h,
-      ap (λ b. cond b n 0) is,
-      ap (λ b. cond b (row_at rows p).count 0) is,
-      ap {B = ℕ} (λ b. cond b 1 0) is,
-    )
-    by false is = omega (
-      arith,
-      e,
-      sum_by-set (weight t) rows p (record (row_at rows p) { count = n }) no_row h,
-      ap (λ b. cond b n 0) is,
-      ap (λ b. cond b (row_at rows p).count 0) is,
-      ap {B = ℕ} (λ b. cond b 1 0) is,
-    )
-
--- a row counts once less
-pub times_lowered : (t : Key → Bool) (rows : List Row) (p n : ℕ) → p < length rows → n + 1 ≡ (row_at rows p).count
-    → times t rows ≡ times t (set rows p (record (row_at rows p) { count = n })) + once t (row_at rows p).key
-times_lowered t rows p n h e = by (t (row_at rows p).key) refl
-  where
-    by : (b : Bool) → t (row_at rows p).key ≡ b → times t rows ≡ times t (set rows p (record (row_at rows p) { count = n })) + once t (row_at rows p).key
-    by true is = omega (
-      arith,
-      e,
-      sum_by-set (weight t) rows p (record (row_at rows p) { count = n }) no_row h,
-      ap (λ b. cond b n 0) is,
-      ap (λ b. cond b (row_at rows p).count 0) is,
-      ap {B = ℕ} (λ b. cond b 1 0) is,
-    )
-    by false is = omega (
-      arith,
-      e,
-      sum_by-set (weight t) rows p (record (row_at rows p) { count = n }) no_row h,
-      ap (λ b. cond b n 0) is,
-      ap (λ b. cond b (row_at rows p).count 0) is,
-      ap {B = ℕ} (λ b. cond b 1 0) is,
-    )
-
--- a row comes last, and is counted once
-pub times_pushed : (t : Key → Bool) (rows : List Row) (j : Key) → times t (rows ++ record { key = j; count = 1 } ∷ []) ≡ times t rows + once t j
-times_pushed t rows j = sum_by_push (weight t) rows (record { key = j; count = 1 })
-
-row_same : (xs : List Row) (i : ℕ) (d : Row) → i < length xs → get_or xs i d ≡ row_at xs i
-row_same [] i d h = absurd (omega (arith, h))
-row_same (x ∷ xs) zero d h = refl
-row_same (x ∷ xs) (suc i) d h = row_same xs i d (omega (arith, h))
-
--- a row that was counted once goes
-pub times_gone : (t : Key → Bool) (rows : List Row) (p : ℕ) (d : Row) → p < length rows → d ≡ get_or rows p d → (row_at rows p).count ≡ 1
-    → times t rows ≡ times t (swap_remove rows p d) + once t (row_at rows p).key
-times_gone t rows p d h is one =
-    sym (sum_by-swap_remove (weight t) rows p d h)
-    ∙ ap (λ n. times t (swap_remove rows p d) + n) (ap (weight t) (row_same rows p d h) ∙ ap (λ n. cond (t (row_at rows p).key) n 0) one)
-
 -- a key that has no row gets one
 module _ {r : Rings} {rows : List Row} (k : Mirrors r rows) (j : Key) (t : Rings) (room : length rows < r.places) (joined : IsJoined (length rows) (length rows + 1) (key_hash j % r.buckets) r t) where
   pub mirrors_pushed : (x : Row) → x.key ≡ j → Mirrors t (rows ++ x ∷ [])
@@ -208,59 +125,6 @@ rows_pushed rows j k new self = record {
 
     old : (p : ℕ) → p < length added → p ≢ length rows → row_at added p ≡ row_at rows p
     old p h ne = get_or_append_left rows (record { key = j; count = 1 } ∷ []) no_row p (below p h ne)
-
--- counts may change as long as keys stay
-module _ {rows more : List Row} (long : length more ≡ length rows) (keys : (p : ℕ) → (row_at more p).key ≡ (row_at rows p).key) where
-  pub mirrors_recounted : {r : Rings} → Mirrors r rows → Mirrors r more
-  mirrors_recounted {r} k = record {
-    long = omega (arith, k.long, long);
-    buckets = k.buckets;
-    stamps = λ p h. k.stamps p (omega (arith, h, long));
-    homes = λ p h. k.homes p (omega (arith, h, long)) ∙ ap (λ i. key_hash i % r.buckets) (sym (keys p));
-    free = λ p within ge. k.free p within (omega (arith, ge, long));
-  }
-
-  pub rows_recounted : AreRows rows → ((p : ℕ) → p < length more → 0 < (row_at more p).count) → AreRows more
-  rows_recounted k counts = record {
-    counts = counts;
-    distinct = λ p q lt h same. k.distinct p q lt (omega (arith, h, long)) (sym (keys p) ∙ same ∙ keys q);
-  }
-
--- a row with another count keeps its key
-pub keys_set : (rows : List Row) (p n q : ℕ) → (row_at (set rows p (record (row_at rows p) { count = n })) q).key ≡ (row_at rows q).key
-keys_set [] p n q = refl
-keys_set (x ∷ xs) zero n zero = refl
-keys_set (x ∷ xs) zero n (suc q) = refl
-keys_set (x ∷ xs) (suc p) n zero = refl
-keys_set (x ∷ xs) (suc p) n (suc q) = keys_set xs p n q
-
-pub counts_set : (rows : List Row) (p n : ℕ) → 0 < n → AreRows rows → (q : ℕ) → q < length (set rows p (record (row_at rows p) { count = n }))
-    → 0 < (row_at (set rows p (record (row_at rows p) { count = n })) q).count
-counts_set rows p n pos k q h = ⊎_elim
-    (λ (e : q ≡ p). subst (λ (y : Row). 0 < y.count)
-    (sym (ap (row_at (set rows p (record (row_at rows p) { count = n }))) e ∙ get_or-set_same rows p (record (row_at rows p) { count = n }) no_row (omega (arith, e, within)))) pos)
-    (λ (ne : q ≢ p). subst (λ (y : Row). 0 < y.count) (sym (get_or-set_other rows p q (record (row_at rows p) { count = n }) no_row ne)) (k.counts q within))
-    (cases_eq q p)
-  where
-    within : q < length rows
-    within = omega (arith, h, length-set rows p (record (row_at rows p) { count = n }))
-
--- where a walk down from the end stops
-pub above_is : {r : Rings} (c mark at below : ℕ) → Present r at → bucket r at ≡ c → (at < r.places → mark < stamp r at) → IsNextOlder r c at below
-    → (below < r.places → stamp r below ≤ mark) → IsAbove r c mark at
-above_is {r} c mark at below there home lower next low = record {
-  there = there;
-  home = home;
-  lower = lower;
-  upper = λ q i under.
-      let m = next.most q i
-      (λ same. ⊎_elim
-      (λ (lt : at < r.places). omega (arith, under lt, ap (stamp r) same))
-      (λ (ge : r.places ≤ at). omega (arith, ge, same, i.place))
-      (cases_lt at r.places))
-      (λ lt. omega (arith, under lt)) in
-      omega (arith, m.1, low m.0);
-}
 
 -- the places that two partings leave have no stamp like that of the first
 module _ (place last : ℕ) {r s t : Rings} (order : place < last)
