@@ -1,0 +1,4 @@
+pub mod Keys
+pub mod Pools
+pub mod Table
+pub mod Tally
