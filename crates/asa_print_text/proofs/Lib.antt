@@ -1,0 +1,4 @@
+pub mod ByteLaws
+pub mod SpellingLaws
+pub mod DigitLaws
+pub mod AddressLaws

@@ -1,0 +1,10 @@
+//! Printing of the configuration line by line. Each line is words, of which its reader finds just these again, and blocks
+//! of printed lines are cut from their text as they were printed.
+#![tactic(auto)]
+
+mod word;
+
+pub use word::{Word, push_inner, push_top};
+
+#[cfg(test)]
+mod tests;
