@@ -1,6 +1,6 @@
 -- Printed addresses and masks are read back.
-use Rattle.std.proofs.Common.{◌≡◌, ◌==◌, ◌||◌, ◌&&◌, ℕ, ◌+◌, ◌-◌, ◌*◌, ◌/◌, ◌%◌, ◌<◌, ◌≤◌, ◌^◌, Bool, true, false, nat_le, List, [], ◌∷◌, ◌++◌, length, decimal, codes, Option, Some, None, Result, Ok, refl, ap, ◌∙◌, sym, arith}
-use Rattle.std.specs.List.{All, list_all, list_any, slice_split}
+use Rattle.std.proofs.Common.{◌≡◌, ◌==◌, ◌||◌, ◌&&◌, ℕ, ◌+◌, ◌-◌, ◌*◌, ◌/◌, ◌%◌, ◌<◌, ◌≤◌, ◌^◌, Bool, true, false, nat_le, List, [], ◌∷◌, ◌++◌, length, decimal, codes, Option, Some, None, Ok, refl, ap, ◌∙◌, arith}
+use Rattle.std.specs.List.{All, list_all, list_any}
 use Rattle.std.specs.Str.{bytes_eq}
 use Rattle.std.specs.Str.Parse.{digits_value}
 use Rattle.std.proofs.Math.Nat.{div-div-eq-div-mul}
@@ -12,7 +12,6 @@ use Rattle.std.proofs.lemmas.Nat.{pow_pos}
 use Rattle.std.proofs.lemmas.Bool.{and_parts, agree_below_at}
 use Rattle.std.proofs.lemmas.Bool.Decides.{nat_tests}
 use Rattle.asa_text.specs.declared.numbers.Addr.{Addr}
-use Rattle.asa_text.specs.declared.numbers.WordFault.{WordFault}
 use Rattle.asa_text.specs.Numbers.{is_digit, is_number, is_octet, runs, address_of, address_of_runs, octets_value, mask_bits, mask_of, ones_of}
 use Rattle.asa_text.specs.Printed.{dotted}
 use Rattle.asa_print_text.specs.Spelling.{is_inner, is_plain}
@@ -30,10 +29,13 @@ same_join a b c d = simp append_assoc
 -- the octets of an address, the first the highest
 abbrev first_octet : Addr → ℕ
 first_octet a = a.0 / 2 ^ 24
+
 abbrev second_octet : Addr → ℕ
 second_octet a = a.0 / 2 ^ 16 % 256
+
 abbrev third_octet : Addr → ℕ
 third_octet a = a.0 / 2 ^ 8 % 256
+
 abbrev fourth_octet : Addr → ℕ
 fourth_octet a = a.0 % 256
 
@@ -181,9 +183,12 @@ dotted_octet n h = digit_or_dot (decimal n) (decimal_digits n (omega arith))
 dotted_word : (a : Addr) → a.0 < 2 ^ 32 → is_dotted_word (dotted a) ≡ true
 dotted_word a h =
     let small = octets_small a.0 h in
-    rw (dotted_is a, dot_there (decimal (first_octet a)) (decimal (second_octet a)) (decimal (third_octet a)) (decimal (fourth_octet a)),
-    dots_joined (decimal (first_octet a)) (decimal (second_octet a)) (decimal (third_octet a)) (decimal (fourth_octet a))
-    (dotted_octet (first_octet a) small.0) (dotted_octet (second_octet a) small.1) (dotted_octet (third_octet a) small.2) (dotted_octet (fourth_octet a) small.3))
+    rw (
+      dotted_is a,
+      dot_there (decimal (first_octet a)) (decimal (second_octet a)) (decimal (third_octet a)) (decimal (fourth_octet a)),
+      dots_joined (decimal (first_octet a)) (decimal (second_octet a)) (decimal (third_octet a)) (decimal (fourth_octet a))
+          (dotted_octet (first_octet a) small.0) (dotted_octet (second_octet a) small.1) (dotted_octet (third_octet a) small.2) (dotted_octet (fourth_octet a) small.3),
+    )
 
 -- a printed address is no word of another form
 pub dotted_no_word : (a : Addr) (v : List ℕ) → a.0 < 2 ^ 32 → is_dotted_word v ≡ false → bytes_eq (dotted a) v ≡ false

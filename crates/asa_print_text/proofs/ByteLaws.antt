@@ -1,5 +1,5 @@
 -- Texts are equal or not, as their bytes are.
-use Rattle.std.proofs.Common.{◌≡◌, ℕ, Bool, true, false, List, Decides, refl, ap}
+use Rattle.std.proofs.Common.{◌≡◌, ℕ, Bool, true, false, List, refl, ap}
 use Rattle.std.specs.Str.{bytes_eq}
 use Rattle.std.proofs.lemmas.Slice.Eq.{bytes_eq-Decides}
 

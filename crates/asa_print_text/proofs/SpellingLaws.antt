@@ -1,17 +1,17 @@
 -- A reader finds in a printed line the words that were printed.
-use Rattle.std.proofs.Common.{◌≡◌, ◌==◌, ℕ, ◌+◌, ◌<◌, Bool, true, false, not, List, [], ◌∷◌, ◌++◌, length, refl, ap, ◌∙◌, arith}
+use Rattle.std.proofs.Common.{◌≡◌, ℕ, ◌+◌, ◌<◌, Bool, true, false, not, List, [], ◌∷◌, ◌++◌, length, refl, ap, sym, ◌∙◌, arith}
 use Rattle.std.specs.List.{All, list_all, slice_split}
-use Rattle.std.proofs.lemmas.List.{append-nil}
+use Rattle.std.proofs.lemmas.List.{append-nil, append_assoc}
 use Rattle.std.proofs.lemmas.List.Splits.{slice_split_at, slice_split_none, slice_split-cons_yes}
 use Rattle.std.proofs.lemmas.List.Elements.{All-nil, All-cons}
 use Rattle.std.proofs.lemmas.Bool.{and_parts}
 use Rattle.std.proofs.lemmas.Bool.Decides.{nat_tests}
 use Rattle.asa_text.specs.Lines.{is_blank}
-use Rattle.asa_text.specs.Words.{Spelled, placed, words_at}
+use Rattle.asa_text.specs.Words.{placed, words_at, line_left}
 use Rattle.asa_print_text.specs.Words.{after_word, after_words, spaced}
-use Rattle.asa_print_text.specs.Spelling.{is_inner, is_plain, all_plain, spelled}
+use Rattle.asa_print_text.specs.Spelling.{is_inner, is_plain, all_plain, spelled, left_of}
 
-not_true : (b : Bool) → not b ≡ true → b ≡ false
+pub not_true : (b : Bool) → not b ≡ true → b ≡ false
 not_true true h = cc
 not_true false h = refl
 
@@ -82,3 +82,16 @@ words_after n [] h = no_words n
 words_after n (w ∷ ws) h =
     let parts = and_parts _ _ h in
     space_before n (w ++ after_words ws) ∙ words_from (n + 1) w ws parts.0 parts.1
+
+-- a whole printed line, still to be read
+pub top_left : (ws : List (List ℕ)) → all_plain ws ≡ true → line_left (spaced ws) ≡ left_of 1 (length (spaced ws) + 1) ws
+top_left ws h = ap (λ found. record { words = found; end = length (spaced ws) + 1 }) (words_of 1 ws h)
+
+pub inner_left : (ws : List (List ℕ)) → all_plain ws ≡ true → line_left (after_words ws) ≡ left_of 2 (length (after_words ws) + 1) ws
+inner_left ws h = ap (λ found. record { words = found; end = length (after_words ws) + 1 }) (words_after 1 ws h)
+
+-- words in two parts
+pub after_parts : (vs ws : List (List ℕ)) → after_words (vs ++ ws) ≡ after_words vs ++ after_words ws
+after_parts [] ws = refl
+after_parts (v ∷ vs) ws =
+    ap (λ rest. after_word v ++ rest) (after_parts vs ws) ∙ sym (append_assoc (after_word v) (after_words vs) (after_words ws))

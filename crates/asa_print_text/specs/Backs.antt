@@ -1,8 +1,7 @@
 -- What it means that printed text is read back.
 use Rattle.std.specs.Prelude.{◌≡◌, ℕ, List, [], ◌∷◌, ◌++◌, Result, Ok, Err}
 use Rattle.asa_text.specs.declared.blocks.Block.{Block}
-use Rattle.asa_text.specs.declared.readers.LineFault.{LineFault}
-use Rattle.asa_text.specs.Words.{Left, line_left}
+use Rattle.asa_text.specs.Words.{Left}
 use Rattle.asa_text.specs.Readers.{Read}
 use Rattle.asa_print_text.specs.Spelling.{left_of}
 use Rattle.asa_print_text.specs.Paragraphs.{Paragraph, block_at}

@@ -2,9 +2,11 @@
 //! of printed lines are cut from their text as they were printed.
 #![tactic(auto)]
 
+mod services;
 mod word;
 
-pub use word::{Word, push_inner, push_top};
+pub use services::{push_ports, push_protocol};
+pub use word::{Word, push_inner, push_top, push_words};
 
 #[cfg(test)]
 mod tests;

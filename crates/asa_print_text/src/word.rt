@@ -36,8 +36,8 @@ fn push_after(out: &mut Vec<u8>, word: &Word<'_>) -> Result<(), AllocError>
     push_word(out, word)
 }
 
-/// Appends words, each after a space.
-fn push_words(out: &mut Vec<u8>, words: &[Word<'_>]) -> Result<(), AllocError>
+/// Appends words, each after a space. On want of memory a part of them may stand there.
+pub fn push_words(out: &mut Vec<u8>, words: &[Word<'_>]) -> Result<(), AllocError>
     ensures { OnOk result (out.new.items ≡ out.old.items ++ after_words (map word_text words.now)) }
 {
     for word in words {
