@@ -40,7 +40,10 @@ fn ports_are_printed_by_their_ranges(rt: HostRuntime) {
     let more = push_ports(&mut out, high).is_ok();
     let all_but = push_ports(&mut out, others).is_ok();
     assert_eq!(rt; (one, more, all_but), (true, true, true));
-    assert_eq!(rt; out.as_slice(), b" eq 443 range 1024 65535 neq 80");
+    assert_eq!(rt;
+        out.as_slice(),
+        b" eq 443 range 1024 65535 neq 80".as_slice()
+    );
 }
 
 #[test]
@@ -52,5 +55,5 @@ fn four_protocols_have_names(rt: HostRuntime) {
     let udp = push_protocol(&mut out, Some(17)).is_ok();
     let gre = push_protocol(&mut out, Some(47)).is_ok();
     assert_eq!(rt; (ip, icmp, tcp, udp, gre), (true, true, true, true, true));
-    assert_eq!(rt; out.as_slice(), b" ip icmp tcp udp 47");
+    assert_eq!(rt; out.as_slice(), b" ip icmp tcp udp 47".as_slice());
 }
