@@ -17,7 +17,7 @@ fn lines_are_words_with_one_space_between(rt: HostRuntime) {
     assert_eq!(rt; (top, inner, alone), (true, true, true));
     assert_eq!(rt;
         out.as_slice(),
-        b"route outside 203.0.113.1 1\n no nameif\nshutdown\n"
+        b"route outside 203.0.113.1 1\n no nameif\nshutdown\n".as_slice()
     );
 }
 
