@@ -1,0 +1,5 @@
+pub mod Words
+pub mod Spelling
+pub mod Paragraphs
+pub mod Backs
+pub mod Services
