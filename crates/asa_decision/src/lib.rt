@@ -5,6 +5,8 @@
 #![tactic(auto)]
 
 mod steps;
+#[cfg(test)]
+mod tests;
 mod trail;
 mod way;
 
