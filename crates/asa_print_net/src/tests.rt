@@ -3,26 +3,23 @@ use crate::push_route;
 use asa_base::{Name, Prefix};
 use asa_ifaces::RouteLine;
 use asa_text::Addr;
-
-fn name(rt: &(impl Abort + AllocGlobal), bytes: &[u8]) -> Name {
-    Name::new(bytes).expect(rt, "no name")
-}
+use std::test::Fail;
 
 #[test]
-fn a_route_has_its_distance(rt: HostRuntime) {
-    let mut out = Vec::new(rt.alloc());
+fn a_route_has_its_distance(rt: HostRuntime) -> Result<(), Fail> {
+    let outside = Name::new(b"outside").ok_or("no name")?;
+    let prefix = Prefix::new(Addr(0), 0).ok_or("no network")?;
     let route = RouteLine {
         ifc: 0,
-        prefix: Prefix {
-            addr: Addr(0),
-            len: 0,
-        },
-        gateway: Addr(0xCB007101),
+        prefix,
+        gateway: Addr(0xcb00_7101),
         distance: 1,
     };
-    let done = push_route(&mut out, &name(&rt, b"outside"), route).is_ok();
+    let mut out = Vec::new(rt.alloc());
+    push_route(&mut out, &outside, route)?;
     assert_eq!(rt;
-        (done, out.as_slice()),
-        (true, &b"route outside 0.0.0.0 0.0.0.0 203.0.113.1 1\n"[..])
+        out.as_slice(),
+        b"route outside 0.0.0.0 0.0.0.0 203.0.113.1 1\n".as_slice()
     );
+    Ok(())
 }
